@@ -19,10 +19,9 @@ use chaos_conn::USUAL_WINDOW;
 use chaos_link::{Link, Peer, Peers, UdpLink};
 use chaosd_clock::Epoch;
 use chaosd_copies::ExitStatus;
-use chaosd_file::{NOBODY, ScriptEnd, Why, run_ask_by};
+use chaosd_file::{HandleName, NOBODY, Notes, ScriptEnd, Why, run_ask_by};
 use chaosd_io::RunFault;
 use chaosd_line::{Ask, Framing};
-use chaosd_told::{Name, Notes, Replies};
 use file_client::{Patience, Route, Shown, Timing};
 use std::fs::{File, Files};
 use std::io;
@@ -54,17 +53,15 @@ struct Asked {
     ghost named: { 0 < route.me },
 }
 
-/// How a script ended, and why.
+/// How a script ended, and what was noted of the run.
 #[derive(Drop)]
 struct Answered {
     end: Result<ScriptEnd, RunFault>,
-    why: Option<Why>,
-    /// Whether a reply was an error.
-    has_error: bool,
+    notes: Notes,
 }
 
 /// Reports each handle that was written and not closed: what was written to it became no file.
-fn tell_written<R: Eprint>(rt: &R, handles: &[Name]) {
+fn tell_written<R: Eprint>(rt: &R, handles: &[HandleName]) {
     for handle in handles {
         let name = Shown(handle.as_slice());
         let _ = eprintln!(rt;
@@ -80,10 +77,9 @@ fn ask_over<R: AllocGlobal + Clock + Eprint + Input + Print, L: Link>(
     asked: &Asked,
     typing: Typing,
 ) -> Answered {
-    let notes = Notes::new();
     let mut reader = rt.reader();
     let mut writer = io::writer(rt);
-    ask_through(rt, link, asked, typing, &notes, &mut reader, &mut writer)
+    ask_through(rt, link, asked, typing, &mut reader, &mut writer)
 }
 
 /// Puts the reader's script over the link, and its replies into the writer.
@@ -92,35 +88,29 @@ fn ask_through<'a, R: AllocGlobal + Clock + Eprint, L: Link, I: Read, W: Write>(
     link: &mut L,
     asked: &Asked,
     typing: Typing,
-    notes: &'a Notes,
     reader: &'a mut I,
-    writer: &'a mut W,
+    writer: &mut W,
 ) -> Answered {
-    let mut typed = Typed::new(rt, reader, typing, notes, asked.is_strict);
-    let mut replies = Replies::new(writer, notes);
-    let mut why = None;
+    let mut typed = Typed::new(rt, reader, typing, asked.is_strict);
+    let mut notes = Notes::new();
     let patience = asked.patience;
     let end = match Epoch::new(rt) {
-        Ok(epoch) => run_ask_by::<ByLook, R, Typed<'a, R, I>, Replies<'a, W>, L>(
+        Ok(epoch) => run_ask_by::<ByLook, R, Typed<'a, R, I>, W, L>(
             rt,
             rt.alloc(),
             &mut typed,
-            &mut replies,
+            writer,
             link,
-            &mut why,
+            &mut notes,
             &asked.route,
             Timing { epoch, patience },
         ),
         Err(fault) => Err(fault),
     };
     if end.is_ok() {
-        tell_written(rt, replies.written());
+        tell_written(rt, notes.replies.written());
     }
-    Answered {
-        end,
-        why,
-        has_error: notes.has_error.get(),
-    }
+    Answered { end, notes }
 }
 
 /// Reports how a script ended, and gives the exit status.
@@ -130,12 +120,9 @@ fn end_asked<R: Clock + Eprint + Print>(
     waiting: &Waiting<'_, R>,
     answered: Answered,
 ) -> ExitStatus {
-    let Answered {
-        end,
-        why,
-        has_error,
-    } = answered;
-    match why {
+    let Answered { end, notes } = answered;
+    let has_error = notes.replies.has_error();
+    match notes.why {
         // It was reported that the host is no peer.
         Some(Why::NoReply(_)) if asked.server.address == NOBODY => end_script(rt, &end, &None),
         Some(Why::NoReply(why)) => {

@@ -6,7 +6,7 @@ use crate::peer_socket::PeerSocket;
 use crate::run_ends::{tell_script, tell_unopened};
 use chaos_link::{Carriage, Peer, Peers, UdpLink};
 use chaosd_copies::ExitStatus;
-use chaosd_file::{LOOP_CLIENT, LOOP_SERVER, ScriptEnd, Why, run_loop};
+use chaosd_file::{LOOP_CLIENT, LOOP_SERVER, Notes, ScriptEnd, Why, run_loop};
 use chaosd_io::RunFault;
 use chaosd_line::Calling;
 use std::io;
@@ -96,15 +96,15 @@ pub(crate) fn run_loop_line<R: AllocGlobal + Eprint + Input + Net + Print>(
         Ok(links) => links,
         Err(error) => return tell_unopened(rt, &"a socket of this machine", &error),
     };
-    let mut why = None;
+    let mut notes = Notes::new();
     let end = run_loop(
         rt.alloc(),
         &mut rt.reader(),
         &mut io::writer(rt),
         &mut near,
         &mut far,
-        &mut why,
+        &mut notes,
         carriage,
     );
-    end_script(rt, &end, &why)
+    end_script(rt, &end, &notes.why)
 }

@@ -3,9 +3,8 @@ ghost use Rattle.std.specs.Prelude.{◌≡◌, ◌≤◌, ◌+◌, length, IfOk}
 ghost use Rattle.std.specs.Counts.{IsPrefixLen};
 
 use crate::terminals::Terminals;
-use chaosd_file::{Ready, read_command};
+use chaosd_file::{Ready, ReplyNotes, read_command};
 use chaosd_io::Data;
-use chaosd_told::Notes;
 use std::fs::File;
 use std::io;
 use std::io::{ErrorKind, Read};
@@ -31,8 +30,10 @@ pub(crate) struct Typed<'a, R: Eprint, I: Read> {
     rt: &'a R,
     inner: &'a mut I,
     typing: Typing,
-    notes: &'a Notes,
     is_strict: bool,
+    /// Whether a reply was an error, and whether the last reply was an error for a handle LOGIN.
+    has_error: bool,
+    is_login: bool,
     /// Whether somebody types, and more is reported.
     is_typed: bool,
     chunk: [u8; CHUNK],
@@ -66,20 +67,15 @@ fn bare(line: &[u8]) -> &[u8] {
 }
 
 impl<'a, R: Eprint, I: Read> Typed<'a, R, I> {
-    pub(crate) fn new(
-        rt: &'a R,
-        inner: &'a mut I,
-        typing: Typing,
-        notes: &'a Notes,
-        is_strict: bool,
-    ) -> Self {
+    pub(crate) fn new(rt: &'a R, inner: &'a mut I, typing: Typing, is_strict: bool) -> Self {
         let is_typed = typing.terminals.input && typing.terminals.errors;
         Typed {
             rt,
             inner,
             typing,
-            notes,
             is_strict,
+            has_error: false,
+            is_login: false,
             is_typed,
             chunk: [0; CHUNK],
             came: 0,
@@ -94,7 +90,7 @@ impl<'a, R: Eprint, I: Read> Typed<'a, R, I> {
         if !self.is_typed {
             return;
         }
-        if self.notes.is_login.get() {
+        if self.is_login {
             let _ = eprintln!(self.rt;
                 "chaosd: LOGIN was read as a handle: a command without a handle has two spaces before its word, as in `T1  LOGIN LISPM`"
             );
@@ -155,7 +151,7 @@ impl<'a, R: Eprint, I: Read> Typed<'a, R, I> {
         ensures bound { IfOk result (λ n. (n ≤ most) × (self.new.given + n ≤ self.new.came)) }
     {
         for _ in 0..u64::MAX {
-            if self.is_over || self.is_strict && self.notes.has_error.get() {
+            if self.is_over || self.is_strict && self.has_error {
                 return Ok(0);
             }
             if self.given == self.came {
@@ -205,11 +201,16 @@ impl<R: Eprint, I: Read> Read for Typed<'_, R, I> {
 }
 
 /// The way of a script that is typed: at a terminal that can be read without waiting it is asked
-/// whether a line was typed.
+/// whether a line was typed. The reader keeps what was noted of the replies for its next line.
 pub(crate) struct ByLook;
 
 impl<R: Eprint, I: Read> Ready<Typed<'_, R, I>> for ByLook {
     fn is_ready(reader: &mut Typed<'_, R, I>) -> bool {
         reader.typing.terminal.is_none() || reader.is_there()
+    }
+
+    fn show(reader: &mut Typed<'_, R, I>, notes: &ReplyNotes) {
+        reader.has_error = notes.has_error();
+        reader.is_login = notes.is_login();
     }
 }

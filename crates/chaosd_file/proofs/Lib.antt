@@ -1,2 +1,3 @@
 pub mod Asking
 pub mod Handed
+pub mod Noted

@@ -3,3 +3,4 @@ pub mod Printed
 pub mod Script
 pub mod Conversation
 pub mod Asking
+pub mod Notes

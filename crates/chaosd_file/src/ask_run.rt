@@ -10,9 +10,9 @@ ghost use Rattle.file_client.specs.Talk.{talker};
 ghost use Rattle.chaosd_clock.specs.declared.clock.Epoch.{Epoch};
 
 use crate::end::ScriptEnd;
+use crate::notes::Notes;
 use crate::ready::{Ready, Unasked};
 use crate::script::run_script;
-use crate::why::Why;
 use chaos_conn::ConnConfig;
 use chaos_link::{Carriage, Link};
 use chaosd_clock::{Dial, Epoch};
@@ -29,8 +29,9 @@ use std::io::{Read, Write};
 /// bits say are passed over, so a run before it from the same address is unlikely to have had the
 /// same index. What it sends goes out by the carriage; datagrams of both versions are read.
 ///
-/// `why` gets what is wrong with a bad line, and why a command got no reply, in words for a user;
-/// no clause speaks of it.
+/// `notes` gets what is wrong with a bad line, and why a command got no reply, in words for a user.
+/// It also gets what the replies that were printed leave undone. No clause of this call speaks of
+/// the notes.
 ///
 /// # Errors
 /// [`RunFault`] as for [`crate::run_loop`], and 7 where the clock can't be read.
@@ -42,7 +43,7 @@ pub fn run_ask<C: Dial, R: Read, W: Write, L: Link>(
     link: &mut L,
     me: u16,
     to: u16,
-    why: &mut Option<Why>,
+    notes: &mut Notes,
     carriage: Carriage,
 ) -> Result<ScriptEnd, RunFault>
     requires { 0 < me }
@@ -75,7 +76,7 @@ pub fn run_ask<C: Dial, R: Read, W: Write, L: Link>(
         config: ConnConfig::usual(),
         carriage,
     };
-    run_ask_by::<Unasked, C, R, W, L>(clock, alloc, reader, writer, link, why, &route, timing)
+    run_ask_by::<Unasked, C, R, W, L>(clock, alloc, reader, writer, link, notes, &route, timing)
 }
 
 /// Runs a script as [`run_ask`] does, by a route and a timing of the caller's. Before each read the
@@ -90,7 +91,7 @@ pub fn run_ask_by<P: Ready<R>, C: Dial, R: Read, W: Write, L: Link>(
     reader: &mut R,
     writer: &mut W,
     link: &mut L,
-    why: &mut Option<Why>,
+    notes: &mut Notes,
     route: &Route,
     timing: Timing,
 ) -> Result<ScriptEnd, RunFault>
@@ -113,5 +114,5 @@ pub fn run_ask_by<P: Ready<R>, C: Dial, R: Read, W: Write, L: Link>(
 {
     let mut turns = Timed::new(clock, link, timing);
     let mut client = Client::new(alloc, &turns, route)?;
-    run_script::<P, Timed<'_, C, L>, R, W>(&mut client, &mut turns, reader, writer, why)
+    run_script::<P, Timed<'_, C, L>, R, W>(&mut client, &mut turns, reader, writer, notes)
 }

@@ -3,16 +3,16 @@ ghost use Rattle.std.specs.Prelude.{◌≡◌, option_map, IfErr};
 ghost use Rattle.std.specs.Result.{result_ok};
 ghost use Rattle.chaosd_file.specs.Command.{command_of, wrong_command};
 
-use crate::why::Why;
+use crate::notes::Notes;
 use chaosd_io::{BadText, Data, LINE_LIMIT, read_data, why_text, without_return};
 
-/// The places of a command and of its reply, which are kept from line to line, and of what is wrong
-/// with a line or a command.
+/// The places of a command and of its reply, which are kept from line to line, and what is noted of
+/// the run.
 #[derive(Drop)]
 pub struct Places {
     pub command: Data,
     pub reply: Data,
-    pub why: Option<Why>,
+    pub notes: Notes,
 }
 
 /// Reads the command that a line stands for into a place of the caller's. The line is a text of at

@@ -11,9 +11,9 @@ ghost use Rattle.file_client.specs.Talk.{talker};
 
 use crate::end::ScriptEnd;
 use crate::limits::{LOOP_CLIENT, LOOP_CLIENT_START, LOOP_SERVER, LOOP_SERVER_START, LOOP_TURN};
+use crate::notes::Notes;
 use crate::ready::Unasked;
 use crate::script::run_script;
-use crate::why::Why;
 use chaos_conn::ConnConfig;
 use chaos_file::MemStore;
 use chaos_host::{Host, HostDelivered};
@@ -185,8 +185,9 @@ impl<A: Link, B: Link> Turns for Both<'_, A, B> {
 /// command mostly takes two. The hosts take their memory first, and later only the server's files
 /// take some.
 ///
-/// `why` gets what is wrong with a bad line, and why a command got no reply, in words for a user;
-/// no clause speaks of it.
+/// `notes` gets what is wrong with a bad line, and why a command got no reply, in words for a user.
+/// It also gets what the replies that were printed leave undone. No clause of this call speaks of
+/// the notes.
 ///
 /// # Errors
 /// [`RunFault`], by its number:
@@ -202,7 +203,7 @@ pub fn run_loop<R: Read, W: Write, A: Link, B: Link>(
     writer: &mut W,
     link_a: &mut A,
     link_b: &mut B,
-    why: &mut Option<Why>,
+    notes: &mut Notes,
     carriage: Carriage,
 ) -> Result<ScriptEnd, RunFault>
     // If the run ends well, as many commands were tried as were replied to, or one more. That many
@@ -246,7 +247,15 @@ pub fn run_loop<R: Read, W: Write, A: Link, B: Link>(
         server: Server::new(alloc, LOOP_SERVER, ConnConfig::usual(), carriage)?,
         store: MemStore::new(alloc),
     };
-    run_between(reader, writer, link_a, link_b, &mut far_end, why, carriage)
+    run_between(
+        reader,
+        writer,
+        link_a,
+        link_b,
+        &mut far_end,
+        notes,
+        carriage,
+    )
 }
 
 /// Runs a script between a new client and this server.
@@ -256,7 +265,7 @@ fn run_between<R: Read, W: Write, A: Link, B: Link>(
     near: &mut A,
     far: &mut B,
     far_end: &mut FarEnd,
-    why: &mut Option<Why>,
+    notes: &mut Notes,
     carriage: Carriage,
 ) -> Result<ScriptEnd, RunFault>
     ensures runs { Runs (R.remaining reader.old) (R.remaining reader.new) (W.contents writer.old)
@@ -287,5 +296,5 @@ fn run_between<R: Read, W: Write, A: Link, B: Link>(
         carriage,
     };
     let mut client = Client::new(alloc, &turns, &route)?;
-    run_script::<Unasked, Both<'_, A, B>, R, W>(&mut client, &mut turns, reader, writer, why)
+    run_script::<Unasked, Both<'_, A, B>, R, W>(&mut client, &mut turns, reader, writer, notes)
 }

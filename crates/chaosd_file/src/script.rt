@@ -5,12 +5,14 @@ ghost use Rattle.chaosd_io.specs.declared.limits.TheConstants.{INPUT_LIMIT};
 ghost use Rattle.chaosd_file.specs.Asking.{AsksLine, Idles};
 ghost use Rattle.chaosd_file.specs.Command.{wrong_command};
 ghost use Rattle.chaosd_file.specs.Conversation.{Asks, Converses, IfAsked, is_broken};
+ghost use Rattle.chaosd_file.specs.Notes.{NotesLine};
 ghost use Rattle.chaosd_file.specs.Script.{Runs};
 ghost use Rattle.file_client.specs.Fault.{IsTurnFault};
 ghost use Rattle.file_client.specs.Talk.{talker};
 
 use crate::command::{Places, read_command};
 use crate::end::ScriptEnd;
+use crate::notes::{Notes, ReplyNotes};
 use crate::ready::Ready;
 use crate::replies::{hand_on, print_none, print_reply};
 use crate::why::Why;
@@ -22,14 +24,14 @@ use std::io::{Read, Write};
 /// of a link or of the clock: no turn is taken after those. The run ends by its first fault.
 /// Replies wait until the reader is asked for more, or to the end. So somebody who types sees each
 /// reply at once, and a script that is there takes one call of the writer for many replies. While
-/// the reader has nothing to give, as `P` says, turns go on. `why` gets what is wrong with a bad
-/// line, and why no reply came.
+/// the reader has nothing to give, as `P` says, turns go on. `notes` gets what is noted of the
+/// run.
 pub fn run_script<P: Ready<R>, T: Turns, R: Read, W: Write>(
     client: &mut Client,
     turns: &mut T,
     reader: &mut R,
     writer: &mut W,
-    why: &mut Option<Why>,
+    notes: &mut Notes,
 ) -> Result<ScriptEnd, RunFault>
     ensures runs { Runs (R.remaining reader.old) (R.remaining reader.new) (W.contents writer.old)
         (W.contents writer.new) result }
@@ -43,7 +45,7 @@ pub fn run_script<P: Ready<R>, T: Turns, R: Read, W: Write>(
         (R.remaining reader.new) (W.contents writer.old) (W.contents writer.new) result }
     ensures gone { IfAsked result (client.new.caller.id ≡ None) }
 {
-    let end = ask_all::<P, T, R, W>(client, turns, reader, writer, why);
+    let end = ask_all::<P, T, R, W>(client, turns, reader, writer, notes);
     if is_broken(&end) {
         return end;
     }
@@ -67,7 +69,7 @@ fn ask_all<P: Ready<R>, T: Turns, R: Read, W: Write>(
     turns: &mut T,
     reader: &mut R,
     writer: &mut W,
-    why: &mut Option<Why>,
+    notes: &mut Notes,
 ) -> Result<ScriptEnd, RunFault>
     ensures runs { Runs (R.remaining reader.old) (R.remaining reader.new) (W.contents writer.old)
         (W.contents writer.new) result }
@@ -83,10 +85,10 @@ fn ask_all<P: Ready<R>, T: Turns, R: Read, W: Write>(
     let mut places = Places {
         command: Data::new(),
         reply: Data::new(),
-        why: None,
+        notes: Notes::new(),
     };
     let end = ask_lines::<P, T, R, W>(client, turns, reader, &mut places, &mut out, writer);
-    *why = places.why.take();
+    *notes = places.notes;
     let printed = hand_on(&mut out, writer);
     if is_broken(&end) {
         return end;
@@ -131,7 +133,7 @@ fn ask_lines<P: Ready<R>, T: Turns, R: Read, W: Write>(
             replied += 1;
         }
         hand_on(out, writer)?;
-        wait_for_input::<P, T, R>(client, turns, reader)?;
+        wait_for_input::<P, T, R>(client, turns, reader, &places.notes.replies)?;
         if !lines.refill(reader)? {
             break 'reads;
         }
@@ -153,11 +155,12 @@ fn ask_lines<P: Ready<R>, T: Turns, R: Read, W: Write>(
 }
 
 /// Takes turns until the reader has something to give, or there is no connection: then a read may
-/// wait.
+/// wait. The reader is shown what was noted of the replies.
 fn wait_for_input<P: Ready<R>, T: Turns, R: Read>(
     client: &mut Client,
     turns: &mut T,
     reader: &mut R,
+    notes: &ReplyNotes,
 ) -> Result<(), RunFault>
     ensures idles { OnOk result
         (Idles (T.pace (T.time turns.old)) (talker client.old.caller (T.queue turns.old))
@@ -169,6 +172,7 @@ fn wait_for_input<P: Ready<R>, T: Turns, R: Read>(
     ensures same_turns { (T.links turns.new ≡ T.links turns.old)
         × (T.time turns.new ≡ T.time turns.old) }
 {
+    P::show(reader, notes);
     for turn in 0..u64::MAX {
         if client.is_over() {
             return Ok(());
@@ -181,7 +185,7 @@ fn wait_for_input<P: Ready<R>, T: Turns, R: Read>(
     Ok(())
 }
 
-/// Asks the command that a line stands for and prints its reply, and says whether it got one.
+/// Asks the command that a line stands for, prints and notes its reply, and says whether it got one.
 fn ask_line<T: Turns, W: Write>(
     client: &mut Client,
     turns: &mut T,
@@ -193,12 +197,15 @@ fn ask_line<T: Turns, W: Write>(
 ) -> Result<bool, RunFault>
     requires few { replied ≤ INPUT_LIMIT }
     ensures wrong { (number : ℕ) → result ≡ Err (RunFault.BadScript number) →
-        places.new.why ≡ Some (Why.BadLine (wrong_command line.now)) }
+        places.new.notes.why ≡ Some (Why.BadLine (wrong_command line.now)) }
     ensures asks { AsksLine (T.pace (T.time turns.old))
         (talker client.old.caller (T.queue turns.old))
         (talker client.new.caller (T.queue turns.new)) replied line.now
         (written_of (W.contents writer.old) out.old) (written_of (W.contents writer.new) out.new)
         result }
+    ensures notes { NotesLine (written_of (W.contents writer.old) out.old)
+        (written_of (W.contents writer.new) out.new) places.old.notes.replies
+        places.new.notes.replies result }
     ensures same_turns { (T.links turns.new ≡ T.links turns.old)
         × (T.time turns.new ≡ T.time turns.old) }
     ensures failed { result ≡ Err RunFault.LinkFault → 0 < T.failures turns.new }
@@ -207,15 +214,16 @@ fn ask_line<T: Turns, W: Write>(
     match read_command(line, &mut places.command) {
         Ok(()) => {}
         Err(wrong) => {
-            places.why = Some(Why::BadLine(wrong));
+            places.notes.why = Some(Why::BadLine(wrong));
             return Err(RunFault::BadScript(replied + 1));
         }
     }
     if !client.ask(turns, places.command.as_slice(), &mut places.reply)? {
-        places.why = Some(Why::NoReply(client.no_reply()));
+        places.notes.why = Some(Why::NoReply(client.no_reply()));
         print_none(out, writer)?;
         return Ok(false);
     }
     print_reply(out, writer, places.reply.as_slice())?;
+    places.notes.replies.note(places.reply.as_slice());
     Ok(true)
 }

@@ -8,7 +8,7 @@ loop-turn-init g c = record {
   same_links = refl;
   same_time = refl;
   well = omega arith;
-  input = refl;
+  input = c.show.ensures;
   idles = idles_none _ _;
 }
 
