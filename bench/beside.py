@@ -28,7 +28,7 @@ BENCHES = {
     "window": ["chaos_window", "chaos_packet"],
     "host": ["chaos_host", "chaos_conn", "chaos_packet"],
     "file": ["chaos_file"],
-    "turn": ["file_server", "chaos_turn", "chaos_file", "chaos_host", "chaos_conn", "chaos_link", "chaos_packet", "arrayvec"],
+    "turn": ["file_server", "chaos_node", "chaos_file", "chaos_host", "chaos_conn", "chaos_link", "chaos_packet", "arrayvec"],
 }
 
 

@@ -1,4 +1,4 @@
-//! Turns of a FILE server that each serve one command, in plain Rust, written for speed: beside the turn of chaos_turn. A datagram is
+//! Turns of a FILE server that each serve one command, in plain Rust, written for speed: beside the turn of chaos_node. A datagram is
 //! read where it lies, a command is carried out where it is held, its reply is written where it is kept to be sent again, and what goes
 //! out is written as its datagram at once. No packet takes memory.
 //!

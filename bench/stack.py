@@ -17,8 +17,8 @@ import tempfile
 HERE = pathlib.Path(__file__).resolve().parent
 PROGRAM = HERE.parent / "bin/chaosd"
 SCRIPT = HERE.parent / "examples/hello.file"
-# what a client's turn is made of; in `loop` it is one of both ends
-TURN = "file_client::client::Client::turn_with::"
+# a turn of `loop`: one of both ends
+TURN = "chaosd_ask::loop_run::LoopDriverDriver::turn::"
 WISHED = 65_536
 
 # what gdb does: at the beginning of each turn it paints, and at its end it looks

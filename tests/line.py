@@ -5,8 +5,8 @@ from tests.support import BAD_LINE, DONE, Case, at, folder, free_ports, run
 ADDRESS_FORM = "1 to 6 octal digits, from 1 to 177777"
 SOCKET_FORM = "a.b.c.d:port in decimal, without leading zeros, with a port from 1 to 65535"
 TURNS_FORM = "a decimal number from 0 to 1000000000, without leading zeros"
-PEER_FORM = "a Chaosnet address, `=` and a UDP address, such as 402=127.0.0.1:9002"
-ENTRY_FORM = "a Chaosnet address or `*`, then `=` and a UDP address, such as 402=127.0.0.1:9002"
+PEER_FORM = "a Chaosnet address, `=` and a UDP address with a port from 1 to 65535, such as 402=127.0.0.1:9002"
+ENTRY_FORM = "a Chaosnet address or `*`, then `=` and a UDP address with a port from 1 to 65535, such as 402=127.0.0.1:9002"
 
 BAD_ADDRESSES = [
     "", "0", "000000", "0000401", "8", "19", "401x", "x", "+1", " 1", "1 ", "0o1", "200000", "777777", "1000000", "4.1",
@@ -69,6 +69,8 @@ HELP = {
         "--file   Also print the data as text, and decode the commands and replies\n",
         "--chudp  Decode datagrams of CHUDP, the framing of cbridge and other\n",
     ],
+    "help --help": ["Usage: chaosd <COMMAND>\n", "Exit status:\n"],
+    "help -h": ["Usage: chaosd <COMMAND>\n", "Exit status:\n"],
     "help lab": ["Usage: chaosd lab\n"],
     "help filelab": ["Usage: chaosd filelab\n"],
     "help loop": ["Usage: chaosd loop [OPTIONS]\n"],
@@ -119,7 +121,7 @@ HELP = {
         "--any-source         Accept datagrams from any UDP address, for a server\n",
         "--output <LOCAL>     Write the file to LOCAL, where - is standard output;\n",
         "--text               Translate a text between ASCII and the Lisp machine's\n",
-        "--verbose            Print the server's address, and a line with the\n",
+        "--verbose            Print a line with the size and the SHA-256 of each\n                           file, even if standard error is not a terminal\n",
     ],
     "put --help": [
         "  <LOCAL>...  Local files, each put under its last name if that is a PATH: 1 to\n",

@@ -40,11 +40,11 @@ class Names(Case):
             contents = sources(here)
             ended = copied(server, "put", *(f"cl/{name}" for name in contents), cwd=here)
             bad = [name for name in contents if SOURCES[name] != name]
-            problems = ended.problems(FAULT, b"", b"".join(SKIPPED % f"cl/{name}".encode() for name in bad))
+            problems = ended.problems(REFUSED, b"", b"".join(SKIPPED % f"cl/{name}".encode() for name in bad))
             for name in ["foo.lisp", "baz.qfasl"]:
                 problems += stored_problems(server.folder / name, contents[name])
             problems += [f"{each.name} is there" for each in server.folder.iterdir() if each.name in bad]
-            self.check("put of a folder of Lisp sources: status 1", problems)
+            self.check("put of a folder of Lisp sources: status 3", problems)
             ended = copied(server, "put", "cl/a+b", options=["--as", "a-b"], cwd=here)
             self.check("put --as names one", ended.problems(DONE, b"", b"") + stored_problems(server.folder / "a-b", contents["a+b"]))
 
@@ -59,8 +59,8 @@ class Names(Case):
             long = "l" * 65
             (here / long).write_bytes(b"x")
             ended = copied(server, "put", long, "cl/", "foo/", "cl/a+b", options=["--rename"], cwd=here)
-            problems = ended.problems(FAULT, b"", b"".join(SKIPPED % name for name in [long.encode(), b"cl/", b"foo/"]))
-            self.check("put --rename of a name of 65 letters and of none: skipped, told, status 1", problems)
+            problems = ended.problems(REFUSED, b"", b"".join(SKIPPED % name for name in [long.encode(), b"cl/", b"foo/"]))
+            self.check("put --rename of a name of 65 letters and of none: skipped, told, status 3", problems)
 
     def test_text_tells_where_a_byte_stands_that_would_not_come_back_and_that_lines_end_in_cr_lf(self):
         with serving() as server, folder() as here:
@@ -93,7 +93,7 @@ class Printed(Case):
             self.check("can't open", ended.problems(FAULT, b"", [b"chaosd: can't open " + PRINTED + b": No such file"]))
             (here / WILD).write_bytes(b"a\r\n")
             ended = copied(server, "put", WILD, cwd=here)
-            self.check("skipped", ended.problems(FAULT, b"", SKIPPED % PRINTED))
+            self.check("skipped", ended.problems(REFUSED, b"", SKIPPED % PRINTED))
             ended = copied(server, "put", WILD, options=["--as", "A", "--verbose", "--text"], cwd=here)
             told = b"chaosd: " + PRINTED + b" has lines that end in CR LF; --text keeps the CRs\n"
             self.check("--verbose and --text", ended.problems(DONE, b"", [told, b"\n" + PRINTED + b" 3 bytes, SHA-256 "]))

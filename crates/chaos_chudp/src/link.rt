@@ -9,7 +9,7 @@ use crate::hops::Hops;
 use crate::limits::{HEAD_BYTES, MAX_CHUDP, TRAILER_BYTES};
 use crate::read::{MARK, checked, words_checked};
 use crate::write::close;
-use chaos_link::{DatagramSocket, LINK_ROOM, Link, Received, Sent};
+use chaos_link::{DatagramSocket, LINK_ROOM, Link, LinkReport, Received, Reports, Sent};
 use std::marker::Model;
 
 /// A link over another link, which carries packets in CHUDP. What is sent to it as a datagram of
@@ -132,6 +132,15 @@ impl<L: Link> Link for ChudpLink<L> {
     /// The failures of the link are those of the link beneath.
     fn failures(&self) -> u64 {
         self.inner.failures()
+    }
+}
+
+/// The report of the link is that of the link beneath.
+impl<L: Reports> Reports for ChudpLink<L> {
+    ghost reported = { λ link. L.reported link.inner };
+
+    fn report(&self) -> LinkReport {
+        self.inner.report()
     }
 }
 

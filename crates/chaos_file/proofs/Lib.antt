@@ -9,3 +9,6 @@ pub mod NoMemory
 pub mod Fitting
 pub mod AllRead
 pub mod ReadReplies
+pub mod ServeSlots
+pub mod ReplyTaken
+pub mod Twice

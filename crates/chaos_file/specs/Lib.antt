@@ -20,3 +20,9 @@ pub mod Replies
 pub mod Spelling
 pub mod Want
 pub mod Reply
+pub mod ServeAnswer
+pub mod ServeCalls
+pub mod ServeHost
+pub mod Serve
+pub mod ServeTask
+pub mod ServeWork

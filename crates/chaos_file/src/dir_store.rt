@@ -86,58 +86,6 @@ impl<R: Files> DirStore<R> {
     }
 }
 
-impl<R: Files> Folder<R> {
-    fn got(&self, alloc: Global, path: &[u8], limit: usize, kept: &mut Option<io::Error>) -> Got
-        ensures illegal { is_path path.now ≡ false → result ≡ Got.Failed }
-        ensures limit { Gives (λ bytes. length bytes ≤ limit) result }
-    {
-        if !is_path(path) {
-            return Got::Failed;
-        }
-        got_as(self.get(alloc, path, limit), kept)
-    }
-
-    fn stored(
-        &self,
-        alloc: Global,
-        path: &[u8],
-        bytes: &[u8],
-        kept: &mut Option<io::Error>,
-    ) -> Stored
-        ensures { is_path path.now ≡ false → result ≡ Stored.Failed }
-    {
-        if !is_path(path) {
-            return Stored::Failed;
-        }
-        stored_as(self.put(alloc, path, bytes), kept)
-    }
-
-    fn removed(&self, alloc: Global, path: &[u8], kept: &mut Option<io::Error>) -> Removed
-        ensures { is_path path.now ≡ false → result ≡ Removed.Failed }
-    {
-        if !is_path(path) {
-            return Removed::Failed;
-        }
-        removed_as(self.remove(alloc, path), kept)
-    }
-
-    fn renamed(
-        &self,
-        alloc: Global,
-        old: &[u8],
-        new: &[u8],
-        kept: &mut Option<io::Error>,
-    ) -> Renamed
-        ensures illegal_old { is_path old.now ≡ false → result ≡ Renamed.Failed }
-        ensures illegal_new { is_path new.now ≡ false → result ≡ Renamed.Failed }
-    {
-        if !is_path(old) || !is_path(new) {
-            return Renamed::Failed;
-        }
-        renamed_as(self.rename(alloc, old, new), kept)
-    }
-}
-
 impl<R: Files> Store for DirStore<R> {
     // It claims no files, so that no call's `files` says anything.
     ghost contents = { λ _. None };
@@ -159,7 +107,11 @@ impl<R: Files> Store for DirStore<R> {
         ensures gives { Gives (λ _. Unit {0}) result }
     {
         self.fault = None;
-        let got = self.folder.got(alloc, path, limit, &mut self.fault);
+        let got = if is_path(path) {
+            got_as(self.folder.get(alloc, path, limit), &mut self.fault)
+        } else {
+            Got::Failed
+        };
         if matches!(&got, Got::Failed) {
             self.note_failure();
         }
@@ -176,7 +128,11 @@ impl<R: Files> Store for DirStore<R> {
         ensures illegal { is_path path.now ≡ false → result ≡ Stored.Failed }
     {
         self.fault = None;
-        let stored = self.folder.stored(alloc, path, bytes, &mut self.fault);
+        let stored = if is_path(path) {
+            stored_as(self.folder.put(alloc, path, bytes), &mut self.fault)
+        } else {
+            Stored::Failed
+        };
         if stored == Stored::Failed {
             self.note_failure();
         }
@@ -193,7 +149,11 @@ impl<R: Files> Store for DirStore<R> {
         ensures illegal { is_path path.now ≡ false → result ≡ Removed.Failed }
     {
         self.fault = None;
-        let removed = self.folder.removed(alloc, path, &mut self.fault);
+        let removed = if is_path(path) {
+            removed_as(self.folder.remove(alloc, path), &mut self.fault)
+        } else {
+            Removed::Failed
+        };
         if removed == Removed::Failed {
             self.note_failure();
         }
@@ -211,7 +171,11 @@ impl<R: Files> Store for DirStore<R> {
         ensures illegal_new { is_path new.now ≡ false → result ≡ Renamed.Failed }
     {
         self.fault = None;
-        let renamed = self.folder.renamed(alloc, old, new, &mut self.fault);
+        let renamed = if is_path(old) && is_path(new) {
+            renamed_as(self.folder.rename(alloc, old, new), &mut self.fault)
+        } else {
+            Renamed::Failed
+        };
         if renamed == Renamed::Failed {
             self.note_failure();
         }

@@ -159,7 +159,8 @@ impl Session {
         self.report(parsed, done)
     }
 
-    /// Carries out what was read.
+    /// Carries out what was read: a command of the right form, where the user may give it.
+    #[tactic(auto, using(crate::proofs::Outcome::settled_done))]
     fn act<S: Store>(
         &mut self,
         alloc: Global,
@@ -182,15 +183,26 @@ impl Session {
             (plan_of self.old (parsed_view parsed.entry))
             self.old self.new result }
     {
-        match parsed {
-            Parsed::BadHead => Err(FileError::Syntax),
-            Parsed::NoWord(_, _) => Err(FileError::Syntax),
-            Parsed::Unknown(_, _) => Err(FileError::UnknownCommand),
-            Parsed::BadForm(_, _, word) => Err(self.error_at(word, FileError::Syntax)),
-            Parsed::BadPath(_, _, word) => Err(self.error_at(word, FileError::IllegalPath)),
-            Parsed::Good(_, handle, command) => {
-                self.run_known(alloc, store, handle, command, reply)
-            }
+        let (handle, command) = match parsed {
+            Parsed::BadHead => return Err(FileError::Syntax),
+            Parsed::NoWord(_, _) => return Err(FileError::Syntax),
+            Parsed::Unknown(_, _) => return Err(FileError::UnknownCommand),
+            Parsed::BadForm(_, _, word) => return Err(self.error_at(word, FileError::Syntax)),
+            Parsed::BadPath(_, _, word) => return Err(self.error_at(word, FileError::IllegalPath)),
+            Parsed::Good(_, handle, command) => (handle, command),
+        };
+        if !self.may_say(command.word()) {
+            return Err(FileError::NotLoggedIn);
+        }
+        match command {
+            Command::Login(name) => unchanged(self.log_in(name, reply)),
+            Command::OpenRead(path) => self.open_read(alloc, store, handle, path, reply),
+            Command::OpenWrite(path) => unchanged(self.open_write(handle, path, reply)),
+            Command::Read => unchanged(self.read(handle, reply)),
+            Command::Write(bytes) => unchanged(self.write(alloc, handle, bytes, reply)),
+            Command::Close => self.close(alloc, store, handle, reply),
+            Command::Rename(old, new) => self.rename(alloc, store, old, new, reply),
+            Command::Delete(path) => self.delete(alloc, store, path, reply),
         }
     }
 
@@ -209,79 +221,6 @@ impl Session {
             error
         } else {
             FileError::NotLoggedIn
-        }
-    }
-
-    /// Carries out a command of the right form, where the user may give it.
-    #[tactic(auto, using(crate::proofs::Outcome::settled_done))]
-    fn run_known<S: Store>(
-        &mut self,
-        alloc: Global,
-        store: &mut S,
-        handle: &[u8],
-        command: Command<'_>,
-        reply: &mut Reply,
-    ) -> Done
-        requires handle { length handle.now ≤ MAX_HANDLE }
-        requires fits { CommandFits (command_view command) }
-        requires room { length reply.old.items ≤ MAX_FRONT }
-        ensures done { IsDone (change S.contents S.may_give S.count store.old store.new)
-            (if_known self.old (word_said (command_view command.entry))
-            (plan_command self.old handle.now (command_view command.entry)))
-            (record {
-              done = end_of result;
-              front = reply.old.items;
-              reply = reply.new.items;
-              old = self.old;
-              new = self.new;
-            }) }
-        ensures change { Reports (change S.contents S.may_give S.count store.old store.new)
-            (if_known self.old (word_said (command_view command.entry))
-            (plan_command self.old handle.now (command_view command.entry)))
-            self.old self.new result }
-    {
-        if self.may_say(command.word()) {
-            self.run(alloc, store, handle, command, reply)
-        } else {
-            Err(FileError::NotLoggedIn)
-        }
-    }
-
-    /// Carries out a command of the right form.
-    #[tactic(auto, using(crate::proofs::Outcome::settled_done))]
-    fn run<S: Store>(
-        &mut self,
-        alloc: Global,
-        store: &mut S,
-        handle: &[u8],
-        command: Command<'_>,
-        reply: &mut Reply,
-    ) -> Done
-        requires handle { length handle.now ≤ MAX_HANDLE }
-        requires fits { CommandFits (command_view command) }
-        requires room { length reply.old.items ≤ MAX_FRONT }
-        ensures done { IsDone (change S.contents S.may_give S.count store.old store.new)
-            (plan_command self.old handle.now (command_view command.entry))
-            (record {
-              done = end_of result;
-              front = reply.old.items;
-              reply = reply.new.items;
-              old = self.old;
-              new = self.new;
-            }) }
-        ensures change { Reports (change S.contents S.may_give S.count store.old store.new)
-            (plan_command self.old handle.now (command_view command.entry))
-            self.old self.new result }
-    {
-        match command {
-            Command::Login(name) => unchanged(self.log_in(name, reply)),
-            Command::OpenRead(path) => self.open_read(alloc, store, handle, path, reply),
-            Command::OpenWrite(path) => unchanged(self.open_write(handle, path, reply)),
-            Command::Read => unchanged(self.read(handle, reply)),
-            Command::Write(bytes) => unchanged(self.write(alloc, handle, bytes, reply)),
-            Command::Close => self.close(alloc, store, handle, reply),
-            Command::Rename(old, new) => self.rename(alloc, store, old, new, reply),
-            Command::Delete(path) => self.delete(alloc, store, path, reply),
         }
     }
 }

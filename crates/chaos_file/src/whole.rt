@@ -36,10 +36,12 @@ pub fn require_room(bytes: u64) -> io::Result<()> {
     Ok(())
 }
 
-/// Writes a new file, with this mode where one is given, and flushes it to the disk.
-fn write_new<R: Files>(
+/// Writes a new file, with this mode where one is given, flushes it to the disk, and gives it its
+/// place.
+fn write_and_rename<R: Files>(
     rt: &R,
     fresh: &str,
+    place: &str,
     mode: Option<Permissions>,
     bytes: &[u8],
 ) -> io::Result<()> {
@@ -48,18 +50,7 @@ fn write_new<R: Files>(
         file.set_permissions(mode)?;
     }
     file.write_all(bytes)?;
-    file.sync_all()
-}
-
-/// Writes a new file and gives it its place.
-fn write_and_rename<R: Files>(
-    rt: &R,
-    fresh: &str,
-    place: &str,
-    mode: Option<Permissions>,
-    bytes: &[u8],
-) -> io::Result<()> {
-    write_new(rt, fresh, mode, bytes)?;
+    file.sync_all()?;
     fs::rename(rt, fresh, place)
 }
 

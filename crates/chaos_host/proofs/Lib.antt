@@ -1,9 +1,11 @@
 pub mod InUse
+pub mod InUseSet
 pub mod Indices
 pub mod NextDue
 pub mod Pending
 pub mod Places
 pub mod Requests
 pub mod Settled
+pub mod SlotSet
 pub mod Table
 pub mod Deeds

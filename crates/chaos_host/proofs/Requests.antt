@@ -59,7 +59,19 @@ free_at slots place slot vacant there = let e = rw there at vacant in grind (ari
 pub not_zero : (n : ℕ) → 1 ≤ n → (n == 0) ≡ false
 not_zero n h = grind (arith, nat_tests)
 
--- a request that was taken is held by the connection with its index
+-- a request that was taken is held
+pub requested_state : (v : HostView) (p : PacketView) (now place : ℕ) (slot : Slot) (conn : ConnView) (id : ℕ)
+    (reply : Reply)
+    → IsHost v → IsRequest v p place → slot ≡ slice_index_or v.slots place slot
+    → DoesQuietly slot.conn (TakeRequest p (record { address = v.address; index = id }) now) conn reply
+    → conn.state ≡ RfcReceived
+requested_state v p now place slot conn id reply host request read does =
+    ap (λ (c : ConnView). c.state) does.view
+    ∙ takes slot.conn p (record { address = v.address; index = id }) now
+    (free_at v.slots place slot request.vacant (stands v.slots place slot request.within read))
+    (not_zero v.address host.address) request.source request.rfc
+
+-- and by the connection with its index
 pub requested_holds : (v : HostView) (p : PacketView) (now place : ℕ) (slot : Slot) (conn : ConnView) (id : ℕ)
     (reply : Reply)
     → IsHost v → IsRequest v p place → slot ≡ slice_index_or v.slots place slot
@@ -69,15 +81,25 @@ pub requested_holds : (v : HostView) (p : PacketView) (now place : ℕ) (slot : 
 requested_holds v p now place slot conn id reply host request read named does =
     let there = stands v.slots place slot request.within read in
     let index = named slot there in
-    let me : End = record { address = v.address; index = id } in
-    let state : conn.state ≡ RfcReceived =
-    ap (λ (c : ConnView). c.state) does.view
-    ∙ takes slot.conn p me now (free_at v.slots place slot request.vacant there)
-    (not_zero v.address host.address) request.source request.rfc in
+    let state = requested_state v p now place slot conn id reply host request read does in
     let found = named_set v.slots place id (with_conn slot conn) request.within host.table.few index (rw state refl) in
     rw found (rw state refl)
 
--- a connection that was asked for has the index that was answered
+-- a connection that was asked for waits for its OPN
+pub connected_state : (v : HostView) (place peer : ℕ) (contact : List ℕ) (start now : ℕ) (slot : Slot) (conn : ConnView)
+    (before after : OutboxView) (id : ℕ) (reply : Reply)
+    → IsHost v → place < length v.slots → is_used_at v.slots place ≡ false → length contact ≤ MAX_DATA
+    → (peer == 0) ≡ false → slot ≡ slice_index_or v.slots place slot
+    → Does slot.conn (Request (record { address = v.address; index = id }) peer contact start now) conn before after
+    reply
+    → conn.state ≡ RfcSent
+connected_state v place peer contact start now slot conn before after id reply host within vacant fits far read does =
+    ap (λ (c : ConnView). c.state) does.view
+    ∙ asks slot.conn (record { address = v.address; index = id }) peer contact start now
+    (free_at v.slots place slot vacant (stands v.slots place slot within read))
+    (not_zero v.address host.address) far fits
+
+-- and has the index that was answered
 pub connected_asks : (v : HostView) (place peer : ℕ) (contact : List ℕ) (start now : ℕ) (slot : Slot) (conn : ConnView)
     (before after : OutboxView) (id : ℕ) (reply : Reply)
     → IsHost v → place < length v.slots → is_used_at v.slots place ≡ false → length contact ≤ MAX_DATA
@@ -90,10 +112,8 @@ connected_asks v place peer contact start now slot conn before after id reply ho
     does =
     let there = stands v.slots place slot within read in
     let index = named slot there in
-    let me : End = record { address = v.address; index = id } in
-    let state : conn.state ≡ RfcSent =
-    ap (λ (c : ConnView). c.state) does.view
-    ∙ asks slot.conn me peer contact start now (free_at v.slots place slot vacant there)
-    (not_zero v.address host.address) far fits in
+    let state =
+    connected_state v place peer contact start now slot conn before after id reply host within vacant fits far read
+    does in
     let found = named_set v.slots place id (with_conn slot conn) within host.table.few index (rw state refl) in
     rw found (rw state refl)

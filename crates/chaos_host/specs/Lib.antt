@@ -9,9 +9,11 @@ pub mod Law
 pub mod Lending
 pub mod Listening
 pub mod NextDue
+pub mod NextInUse
 pub mod Requested
 pub mod Route
 pub mod Slot
+pub mod SlotSet
 pub mod Stored
 pub mod Tick
 pub mod View

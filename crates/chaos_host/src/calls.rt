@@ -117,7 +117,7 @@ impl Host {
     {
         let slot = named_mut(&mut self.slots, id)?;
         let done = slot.conn.answer(bytes, out);
-        slot.end_call();
+        self.in_use.set(id.place(), slot.end_call());
         done.map_err(CallFault::Refused)
     }
 
@@ -132,7 +132,7 @@ impl Host {
     {
         let slot = named_mut(&mut self.slots, id)?;
         let done = slot.conn.reject(text, out);
-        slot.end_call();
+        self.in_use.set(id.place(), slot.end_call());
         done.map_err(CallFault::Refused)
     }
 
@@ -148,7 +148,7 @@ impl Host {
     {
         let slot = named_mut(&mut self.slots, id)?;
         let done = slot.conn.close(text, out);
-        slot.end_call();
+        self.in_use.set(id.place(), slot.end_call());
         done.map_err(CallFault::Refused)
     }
 }

@@ -73,6 +73,7 @@ impl Host {
         let _ = self.slots[place]
             .conn
             .request(me, peer, contact, start, now, out);
+        self.in_use.set(place, true);
         id
     }
 }

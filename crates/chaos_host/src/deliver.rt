@@ -159,6 +159,7 @@ impl Host {
         let id = index_at(&self.slots, place);
         let me = id.end_at(self.address);
         let _ = self.slots[place].conn.take_request(packet, me, now);
+        self.in_use.set(place, true);
         HostDisposition::Requested(id)
     }
 }

@@ -28,7 +28,7 @@ impl Host {
             return Err(CallFault::StillActive);
         }
         let _ = slot.conn.close(b"", out);
-        slot.end_call();
+        self.in_use.set(id.place(), slot.end_call());
         Ok(())
     }
 }

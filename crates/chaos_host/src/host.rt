@@ -6,6 +6,7 @@ use crate::fault::MakeFault;
 use crate::limits::{MAX_CONNS, MAX_LISTENERS};
 use crate::listeners::Contact;
 use crate::slot::Slot;
+use crate::slot_set::SlotSet;
 use arrayvec::ArrayVec;
 use chaos_conn::{Conn, ConnConfig};
 use std::alloc::{AllocError, Global};
@@ -83,17 +84,19 @@ pub struct Host {
     pub(crate) config: ConnConfig,
     pub(crate) listeners: ArrayVec<Contact, MAX_LISTENERS>,
     pub(crate) slots: Vec<Slot>,
+    /// The slots in use.
+    pub(crate) in_use: SlotSet,
 }
 
 impl Model for Host {
-    ghost use Rattle.chaos_host.specs.View.{HostView, IsHost};
-    ghost use Rattle.chaos_host.specs.Inside.{host_view};
+    ghost use Rattle.chaos_host.specs.View.{HostView};
+    ghost use Rattle.chaos_host.specs.Inside.{IsSound, host_view};
 
     ghost Value = { HostView };
 
     ghost view = { host_view };
 
-    ghost invariant = { λ h. IsHost (host_view h) };
+    ghost invariant = { λ h. IsSound h };
 }
 
 impl Host {
@@ -125,6 +128,7 @@ impl Host {
             config,
             listeners: ArrayVec::new(),
             slots,
+            in_use: SlotSet::new(),
         })
     }
 

@@ -1,5 +1,6 @@
 //! The own indices of connections.
-ghost use Rattle.std.specs.Prelude.{◌≡◌};
+ghost use Rattle.std.specs.Prelude.{◌≡◌, ◌<◌};
+ghost use Rattle.chaos_host.specs.Slot.{place_of};
 
 use chaos_conn::End;
 use std::marker::Model;
@@ -21,6 +22,14 @@ impl Model for ConnId {
 }
 
 impl ConnId {
+    /// The place of the slot that the index names.
+    pub(crate) fn place(self) -> usize
+        ensures value { result ≡ place_of self }
+        ensures within { result < 256 }
+    {
+        usize::from(self.0 % 256).saturating_sub(1)
+    }
+
     /// The own end of the connection with this index, at a host with this address.
     pub(crate) fn end_at(self, address: u16) -> End
         ensures { result ≡ record { address = address; index = self } }

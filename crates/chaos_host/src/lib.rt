@@ -22,6 +22,7 @@ mod replies;
 mod requested;
 mod route;
 mod slot;
+mod slot_set;
 mod slots;
 mod stored;
 mod tick;

@@ -1,14 +1,15 @@
 //! What a host shows of its connections.
-ghost use Rattle.std.specs.Prelude.{◌≡◌, option_map, IfSome, Ok};
+ghost use Rattle.std.specs.Prelude.{◌≡◌, option_map, IfSome, Ok, Some};
 ghost use Rattle.std.specs.Option.{option_copied};
 ghost use Rattle.std.specs.Result.{result_map_both};
 ghost use Rattle.chaos_conn.specs.Calls.{can_write, front_of, is_drained, peer_of};
-ghost use Rattle.chaos_host.specs.View.{conn_at, id_at, host_look};
+ghost use Rattle.chaos_host.specs.NextInUse.{IsNextInUse};
+ghost use Rattle.chaos_host.specs.View.{IsHost, conn_at, id_at, host_look};
 
 use crate::fault::CallFault;
 use crate::host::Host;
 use crate::index::ConnId;
-use crate::slots::named;
+use crate::slots::{is_used_at, named};
 use chaos_conn::{Conn, State};
 use chaos_packet::Item;
 
@@ -43,6 +44,45 @@ impl Host {
             return None;
         }
         Some((used.index_at(slot), &used.conn))
+    }
+
+    /// The first slot in use from a place on. So a walk over the connections looks at no free slot.
+    pub fn next_in_use(&self, from: usize) -> Option<usize>
+        // The slot at the place that is answered is in use, and each slot before it, from `from`
+        // on, is free. If the answer is `None`, each slot from `from` on is free.
+        ensures next { IsNextInUse self.now from result }
+        // Every host is as `IsHost` says.
+        ensures sound { IsHost self.now }
+    {
+        if from >= self.slots.len() {
+            return None;
+        }
+        let mut place = from;
+        // A slot in use is found by the look that its user makes anyway. The set leads past others.
+        'free: while !is_used_at(&self.slots, place) {
+            place = self.in_use.next(place)?;
+        }
+        Some(place)
+    }
+
+    /// The first connection in a slot from a place on, with the place and its index. So a caller
+    /// that walks over the connections looks into the table once for each.
+    pub fn next_conn(&self, from: usize) -> Option<(usize, ConnId, &Conn)>
+        // The place is the answer of `next_in_use`: the next slot in use, or none.
+        ensures next { IsNextInUse self.now from (option_map (λ at. at.0) result) }
+        // The connection in that slot is lent with all its looks, and with its index: the answer
+        // of `conn_at` at the place.
+        ensures conn { IfSome result (λ at. conn_at self.now at.0 ≡ Some (at.1, at.2.now)) }
+        // Its index is the answer of `id_of`.
+        ensures index { IfSome result (λ at. id_at self.now at.0 ≡ Some at.1) }
+        // The index names the connection.
+        ensures named { IfSome result (λ at. host_look self.now at.1 (λ conn. conn) ≡ Ok at.2.now) }
+        // Every host is as `IsHost` says.
+        ensures sound { IsHost self.now }
+    {
+        let place = self.next_in_use(from)?;
+        let used = &self.slots[place];
+        Some((place, used.index_at(place), &used.conn))
     }
 
     /// Lends a connection by its index. One look into the table serves all looks that a caller

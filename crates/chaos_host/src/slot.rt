@@ -54,12 +54,16 @@ impl Slot {
         }
     }
 
-    /// Moves the generation on, where a call left the slot without a connection.
-    pub fn end_call(&mut self)
-        ensures { self.new ≡ after_ending self.old }
+    /// Moves the generation on, where a call left the slot without a connection. Says whether the
+    /// slot is in use still.
+    pub fn end_call(&mut self) -> bool
+        ensures after { self.new ≡ after_ending self.old }
+        ensures used { result ≡ is_used self.new }
     {
-        if self.is_free() {
+        let is_free = self.is_free();
+        if is_free {
             self.generation = self.generation.wrapping_add(1);
         }
+        !is_free
     }
 }

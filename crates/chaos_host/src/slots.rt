@@ -32,7 +32,7 @@ pub fn named_place(slots: &Vec<Slot>, id: ConnId) -> Option<usize>
         × (named_slot slots.now.items id ≡ slice_get slots.now.items i)) }
     ensures none { IfNone result (named_slot slots.now.items id ≡ None) }
 {
-    let place = usize::from(id.0 % 256).saturating_sub(1);
+    let place = id.place();
     let slot = slots.get(place)?;
     if !slot.is_free() && slot.index_at(place) == id {
         Some(place)

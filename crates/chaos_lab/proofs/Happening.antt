@@ -1,11 +1,11 @@
 -- Lists of events.
-use Rattle.std.proofs.Common.{◌≡◌, ℕ, zero, suc, Bool, true, List, [], ◌∷◌, take, Option, Some, None, Result, Err, ap, sym, subst, ◌∙◌, inl, inr, ◌+◌, arith}
-use Rattle.std.specs.Prelude.{slice_get, if◌then◌else◌}
+use Rattle.std.proofs.Common.{◌≡◌, ℕ, zero, suc, Bool, List, [], ◌∷◌, take, Option, Some, None, Result, Err, ap, sym, subst, ◌∙◌, inl, inr, ◌+◌, arith}
+use Rattle.std.specs.Prelude.{slice_get}
 use Rattle.std.proofs.lemmas.Bool.{cond_both}
 use Rattle.chaos_packet.specs.Packet.{PacketView}
 use Rattle.chaos_conn.specs.declared.fault.ConnFault.{ConnFault}
 use Rattle.chaos_conn.specs.Act.{Call, act}
-use Rattle.chaos_conn.specs.Act.Call.{TakeRequest, Accept, Deliver, Write, Read, Announce, Close, Tick}
+use Rattle.chaos_conn.specs.Act.Call.{Accept, Write, Read, Announce, Close, Tick}
 use Rattle.chaos_lab.specs.declared.side.Side.{Side}
 use Rattle.chaos_lab.specs.declared.side.Side.TheVariants.{B}
 use Rattle.chaos_lab.specs.declared.stamped.Stamped.{Stamped}
@@ -14,9 +14,9 @@ use Rattle.chaos_lab.specs.declared.event.Stepped.{Stepped}
 use Rattle.chaos_lab.specs.declared.fault.LabFault.{LabFault}
 use Rattle.chaos_lab.specs.declared.fault.LabFault.TheVariants as fault
 use Rattle.chaos_lab.specs.Machine.{other}
-use Rattle.chaos_lab.specs.Shown.{place_of}
-use Rattle.chaos_lab.specs.Told.{told, told_at, packet_of_copy}
-use Rattle.chaos_lab.specs.Laboratory.{LabView, Happening, Done, Calls, Happens, happen, check, copy_fault, after_all, call_effect, call_at, delivery_effect, delivery, is_fresh, is_request, refusal, refusal_of, lab_end}
+use Rattle.chaos_lab.specs.Told.{told, told_at}
+use Rattle.chaos_lab.specs.Calling.{call_of, told_of, IsCall}
+use Rattle.chaos_lab.specs.Laboratory.{LabView, Happening, Done, Calls, Happens, happen, check, after_all, call_effect, call_at, delivery_effect, delivery, is_fresh, refusal, refusal_of, lab_end}
 use Rattle.chaos_lab.specs.Laboratory.Happening.{WriteBy, ReadBy, AnnounceBy, TickOf, CloseBy, AcceptFrom, DeliverCopy}
 
 -- one event more
@@ -73,27 +73,16 @@ pub passed : (old : LabView) (event : Happening) (new : LabView) (answer : Resul
 passed old event new answer (inl h) is = absurd (no_memory old event (sym h.1 ∙ is))
 passed old event new answer (inr h) is = h.0
 
--- a fresh copy comes by a call at the end that it was sent to: as the request, where it asks, or else as a packet
-pub copy_comes : (l m : LabView) (k : ℕ) (s : Stamped) (x : Side) (p : PacketView) (asks : Bool)
-    (answer : Result StepDone LabFault) → slice_get l.copies k ≡ Some s → is_fresh l.a l.b s ≡ true
-    → is_request l.asked s ≡ asks → x ≡ other s.side → p ≡ s.packet
-    → Calls l x (if asks then TakeRequest p (place_of B) l.clock else Deliver p l.clock) m (told p [] answer)
-    → Happens l (DeliverCopy k) m (told_at l m (DeliverCopy k) answer)
-copy_comes l m k s x p asks answer at fresh asked side packet calls =
-    let call : Bool → PacketView → Call = λ b q. if b then TakeRequest q (place_of B) l.clock else Deliver q l.clock in
-    let effect : happen l (DeliverCopy k) ≡ call_at l (other s.side) (call asks s.packet) =
-    ap (delivery_effect l) at
-    ∙ ap (λ b. if b then call_at l (other s.side) (delivery l.asked l.clock s) else refusal l fault.Stale) fresh
-    ∙ ap (λ b. call_at l (other s.side) (call b s.packet)) asked in
-    let checked : check l (DeliverCopy k) ≡ None =
-    ap (copy_fault l) at ∙ ap (λ b. if b then None else Some fault.Stale) fresh in
-    let shown : told_at l m (DeliverCopy k) answer ≡ told s.packet [] answer =
-    ap (λ o. told (packet_of_copy o) [] answer) at in
-    subst (Happens l (DeliverCopy k) m) (sym shown)
-    (called (call asks s.packet) (told s.packet [] answer) effect checked
-    (subst (λ (z : Side × PacketView). Calls l z.0 (call asks z.1) m (told z.1 [] answer)) (λ j. (side j, packet j)) calls))
+-- the call that an event is does what the event does
+pub call_happens : (l m : LabView) (event : Happening) (x : Side) (asks : Bool) (came : PacketView)
+    (answer : Result StepDone LabFault) → IsCall l event x asks came
+    → Calls l x (call_of event asks came l.clock) m (told_of event came (lab_end m x).read answer)
+    → Happens l event m (told_at l m event answer)
+call_happens l m event x asks came answer is calls =
+    let shown : told_of event came (lab_end m x).read answer ≡ told_at l m event answer =
+    λ j. told (is.packet j) (is.items m j) answer in
+    subst (Happens l event m) shown (happened (told_of event came (lab_end m x).read answer) calls)
   where
-    called : (c : Call) (r : Result Stepped LabFault) → happen l (DeliverCopy k) ≡ call_at l (other s.side) c
-        → check l (DeliverCopy k) ≡ None → Calls l (other s.side) c m r → Happens l (DeliverCopy k) m r
-    called c r effect checked (inl h) = inl (h.0 ∙ ap (λ d. d.lab) (sym effect), h.1 ∙ ap (λ d. d.answer) (sym effect))
-    called c r effect checked (inr h) = inr (checked, h.0, h.1)
+    happened : (r : Result Stepped LabFault) → Calls l x (call_of event asks came l.clock) m r → Happens l event m r
+    happened r (inl h) = inl (h.0 ∙ ap (λ d. d.lab) (sym is.does), h.1 ∙ ap (λ d. d.answer) (sym is.does))
+    happened r (inr h) = inr (is.passed, h.0, h.1)

@@ -1,15 +1,15 @@
 //! Both ends of the laboratory.
 ghost use Rattle.std.specs.Prelude.{◌≡◌, ◌≤◌, OnOk};
 ghost use Rattle.chaos_lab.specs.Calling.{call_of, told_of};
-ghost use Rattle.chaos_lab.specs.Inside.{end_view, HasRoom, AreReady};
+ghost use Rattle.chaos_lab.specs.Inside.{end_view, happening_of, HasRoom, AreReady};
 ghost use Rattle.chaos_lab.specs.Makes.{MakesAt, read_at};
 
-use crate::call::Call;
-use crate::event::StepDone;
+use crate::event::{Event, StepDone};
 use crate::fault::LabFault;
 use crate::lab_end::LabEnd;
 use crate::side::Side;
-use chaos_packet::Outbox;
+use crate::target::Target;
+use chaos_packet::{Outbox, Packet};
 use std::alloc::AllocError;
 
 /// Both ends. A call at one of them leaves the other as it is.
@@ -30,21 +30,23 @@ impl BothEnds {
         self.b.grow()
     }
 
-    /// Makes a call at one of them.
+    /// Makes the call of an event at one of them.
     pub(crate) fn call(
         &mut self,
-        side: Side,
-        call: &Call<'_>,
+        target: Target,
+        event: &Event<'_>,
+        came: &Packet,
         now: u64,
         out: &mut Outbox,
     ) -> Result<StepDone, LabFault>
         requires ready { AreReady self.old out.old }
-        ensures { MakesAt side (call_of call.now now) self.old self.new out.old out.new
-            (told_of call.now (read_at side self.new) result) }
+        ensures { MakesAt target.side (call_of (happening_of event.now) target.asks came.now now)
+            self.old self.new out.old out.new
+            (told_of (happening_of event.now) came.now (read_at target.side self.new) result) }
     {
-        match side {
-            Side::A => self.a.call(call, now, out),
-            Side::B => self.b.call(call, now, out),
+        match target.side {
+            Side::A => self.a.call(event, target.asks, came, now, out),
+            Side::B => self.b.call(event, target.asks, came, now, out),
         }
     }
 }

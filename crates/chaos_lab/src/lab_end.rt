@@ -7,7 +7,7 @@ ghost use Rattle.chaos_packet.specs.Packet.{blank, item_of};
 ghost use Rattle.chaos_conn.specs.Act.Call.{Accept, Deliver, Read, Write};
 ghost use Rattle.chaos_conn.specs.Calls.{front_of};
 ghost use Rattle.chaos_lab.specs.History.{HasPlace};
-ghost use Rattle.chaos_lab.specs.Inside.{end_view, HasRoom};
+ghost use Rattle.chaos_lab.specs.Inside.{end_view, happening_of, HasRoom};
 ghost use Rattle.chaos_lab.specs.Calling.{call_of, told_of};
 ghost use Rattle.chaos_lab.specs.Makes.{Makes};
 ghost use Rattle.chaos_lab.specs.Told.{told};
@@ -15,8 +15,7 @@ ghost use Rattle.chaos_conn.specs.View.{new_conn};
 ghost use Rattle.chaos_conn.specs.Opening.{rfc_item};
 ghost use Rattle.chaos_lab.specs.Laboratory.{request_for};
 
-use crate::call::Call;
-use crate::event::StepDone;
+use crate::event::{Event, StepDone};
 use crate::fault::LabFault;
 use crate::history::History;
 use crate::user::{Turned, User};
@@ -104,37 +103,45 @@ impl LabEnd {
         self.read.grow()
     }
 
-    /// Makes a call of its connection, and keeps what it wrote and what its user read.
+    /// Makes the call of an event, and keeps what it wrote and what its user read. A copy's packet
+    /// has come to this place, as the request or as a packet of the connection.
     pub(crate) fn call(
         &mut self,
-        call: &Call<'_>,
+        event: &Event<'_>,
+        asks: bool,
+        came: &Packet,
         now: u64,
         out: &mut Outbox,
     ) -> Result<StepDone, LabFault>
         requires room { HasRoom self.old }
         requires empty { out.old.packets ≡ [] }
         requires fits { (self.old.conn.config.send_cap ≤ MAX_WINDOW) × (MAX_WINDOW ≤ out.old.cap) }
-        ensures { Makes (end_view self.old) (call_of call.now now)
-            (end_view self.new) out.old out.new (told_of call.now self.new.read.list.items result) }
+        ensures { Makes (end_view self.old) (call_of (happening_of event.now) asks came.now now)
+            (end_view self.new) out.old out.new
+            (told_of (happening_of event.now) came.now self.new.read.list.items result) }
     {
-        match call {
-            Call::Write(op, bytes) => self.write(*op, bytes, now, out),
-            Call::Read => self.read(out),
-            Call::Announce(window) => match self.conn.announce(*window, out) {
+        match event {
+            Event::Write(_, op, bytes) => self.write(*op, bytes, now, out),
+            Event::Read(_) => self.read(out),
+            Event::Announce(_, window) => match self.conn.announce(*window, out) {
                 Ok(()) => Ok(StepDone::Announced(*window)),
                 Err(why) => Err(LabFault::Refused(why)),
             },
-            Call::Tick(moment) => Ok(StepDone::Ticked(self.conn.tick(*moment, out))),
-            Call::Close(text) => match self.conn.close(text, out) {
+            Event::Tick(_, moment) => Ok(StepDone::Ticked(self.conn.tick(*moment, out))),
+            Event::Close(_, text) => match self.conn.close(text, out) {
                 Ok(()) => Ok(StepDone::Closed),
                 Err(why) => Err(LabFault::Refused(why)),
             },
-            Call::Accept(start) => self.accept(*start, now, out),
-            Call::TakeRequest(rfc) => match self.conn.take_request(rfc, PLACE_B, now) {
-                Ok(()) => Ok(StepDone::Requested),
-                Err(why) => Err(LabFault::Refused(why)),
-            },
-            Call::Deliver(packet) => self.deliver(packet, now, out),
+            Event::Accept(start) => self.accept(*start, now, out),
+            Event::Deliver(_) => {
+                if !asks {
+                    return self.deliver(came, now, out);
+                }
+                match self.conn.take_request(came, PLACE_B, now) {
+                    Ok(()) => Ok(StepDone::Requested),
+                    Err(why) => Err(LabFault::Refused(why)),
+                }
+            }
         }
     }
 

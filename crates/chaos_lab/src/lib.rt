@@ -10,7 +10,6 @@
 #![tactic(auto)]
 
 mod both_ends;
-mod call;
 mod copy_list;
 mod data;
 mod event;
@@ -25,6 +24,7 @@ mod rig;
 mod settling;
 mod side;
 mod stamped;
+mod target;
 mod user;
 
 pub use data::set_aside;

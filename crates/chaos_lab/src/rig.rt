@@ -5,17 +5,17 @@ ghost use Rattle.chaos_conn.specs.Config.{IsConfig};
 ghost use Rattle.chaos_conn.specs.View.{IsConn};
 ghost use Rattle.chaos_lab.specs.declared.side.Side.{Side};
 ghost use Rattle.chaos_conn.specs.Stored.{stored_packets, stored_bytes};
-ghost use Rattle.chaos_lab.specs.Laboratory.{Happens, happen, check, lab_end, start_for, after_all, StopsWithin, Calls, asked_after, clock_after, is_fresh, is_request, stamp};
+ghost use Rattle.chaos_lab.specs.Laboratory.{Happens, happen, check, lab_end, start_for, after_all, refusal, StopsWithin, asked_after, clock_after, is_fresh, is_request, stamp};
 ghost use Rattle.chaos_lab.specs.Laboratory.Happening.{DeliverCopy};
 ghost use Rattle.chaos_lab.specs.History.{HasPlace};
 ghost use Rattle.chaos_lab.specs.Inside.{end_view, happening_of, HasRoom, HasSpace};
 ghost use Rattle.chaos_lab.specs.Told.{told_at, packet_at, items_at};
-ghost use Rattle.chaos_lab.specs.Calling.{call_of, told_of};
+ghost use Rattle.chaos_lab.specs.Calling.{call_of, IsCall};
+ghost use Rattle.chaos_packet.specs.Packet.{PacketView};
 ghost use Rattle.chaos_lab.specs.Turn.{Turn, IsTaken, turn_events};
 ghost use Rattle.chaos_lab.specs.Turning.{stamped_reply, reply_items};
 
 use crate::both_ends::BothEnds;
-use crate::call::Call;
 use crate::copy_list::CopyList;
 use crate::event::{Event, StepDone};
 use crate::fault::LabFault;
@@ -23,6 +23,7 @@ use crate::kept_item::KeptItem;
 use crate::lab_end::LabEnd;
 use crate::side::Side;
 use crate::stamped::Stamped;
+use crate::target::Target;
 use crate::user::{Turned, User};
 use chaos_conn::{Conn, ConnConfig};
 use chaos_packet::{Kind, MAX_DATA, Outbox, Packet, PktNum};
@@ -182,7 +183,8 @@ impl Rig {
         }
     }
 
-    /// Lets an event happen.
+    /// Lets an event happen, at the greatest moment that was ticked. What it puts out joins the
+    /// copies.
     pub(crate) fn step(
         &mut self,
         event: &Event<'_>,
@@ -191,22 +193,44 @@ impl Rig {
         ensures { Happens self.old (happening_of event.now) self.new
             (told_at self.old self.new (happening_of event.now) result) }
     {
-        match event {
-            Event::Write(side, op, bytes) => self.call(*side, &Call::Write(*op, bytes)),
-            Event::Read(side) => self.call(*side, &Call::Read),
-            Event::Announce(side, window) => self.call(*side, &Call::Announce(*window)),
-            Event::Tick(side, moment) => self.call(*side, &Call::Tick(*moment)),
-            Event::Close(side, text) => self.call(*side, &Call::Close(text)),
-            Event::Accept(start) => self.call(Side::B, &Call::Accept(*start)),
-            Event::Deliver(k) => self.deliver(*k, place),
-        }
+        let target = self.target_of(event, place)?;
+        grow(&mut self.ends, &mut self.copies)?;
+        let done = self
+            .ends
+            .call(target, event, place, self.clock, &mut self.out)?;
+        let (asked, clock) = noted(self.asked, self.clock, event, target.asks);
+        self.asked = asked;
+        self.clock = clock;
+        post(&mut self.copies, &mut self.out, target.side, &self.ends);
+        Ok(done)
     }
 
-    /// A copy comes to the end that it was sent to, as the request or as a packet of the
-    /// connection.
-    fn deliver(&mut self, k: usize, place: &mut Packet) -> Result<StepDone, LabFault>
-        ensures { Happens self.old (DeliverCopy k) self.new
-            (told_at self.old self.new (DeliverCopy k) result) }
+    /// The end at which an event happens. The packet of a copy that comes is written into the
+    /// place.
+    fn target_of(&self, event: &Event<'_>, place: &mut Packet) -> Result<Target, LabFault>
+        ensures found { IfOk result (λ target. IsCall self.now (happening_of event.now) target.side
+            target.asks place.new) }
+        ensures refused { IfErr result
+            (λ why. happen self.now (happening_of event.now) ≡ refusal self.now why) }
+    {
+        let side = match event {
+            Event::Write(side, _, _) => *side,
+            Event::Read(side) => *side,
+            Event::Announce(side, _) => *side,
+            Event::Tick(side, _) => *side,
+            Event::Close(side, _) => *side,
+            Event::Accept(_) => Side::B,
+            Event::Deliver(k) => return self.target_of_copy(*k, place),
+        };
+        Ok(Target { side, asks: false })
+    }
+
+    /// The end that a copy was sent to, and whether it comes as the request or as a packet of the
+    /// connection. Its packet is written into the place.
+    fn target_of_copy(&self, k: usize, place: &mut Packet) -> Result<Target, LabFault>
+        ensures found { IfOk result
+            (λ target. IsCall self.now (DeliverCopy k) target.side target.asks place.new) }
+        ensures refused { IfErr result (λ why. happen self.now (DeliverCopy k) ≡ refusal self.now why) }
     {
         let Some(copy) = self.copies.list.get(k) else {
             return Err(LabFault::NoSuchCopy);
@@ -214,28 +238,11 @@ impl Rig {
         if !is_fresh(&self.ends, copy) {
             return Err(LabFault::Stale);
         }
-        let side = copy.side.other();
-        let asks = is_request(self.asked, copy);
         copy.packet.write_into(place);
-        if asks {
-            return self.call(side, &Call::TakeRequest(place));
-        }
-        self.call(side, &Call::Deliver(place))
-    }
-
-    /// Makes a call at one end, at the greatest moment that was ticked. What it puts out joins the
-    /// copies.
-    fn call(&mut self, side: Side, call: &Call<'_>) -> Result<StepDone, LabFault>
-        ensures { Calls self.old side (call_of call.now self.old.clock) self.new
-            (told_of call.now (lab_end self.new side).read result) }
-    {
-        grow(&mut self.ends, &mut self.copies)?;
-        let done = self.ends.call(side, call, self.clock, &mut self.out)?;
-        let (asked, clock) = noted(self.asked, self.clock, call);
-        self.asked = asked;
-        self.clock = clock;
-        post(&mut self.copies, &mut self.out, side, &self.ends);
-        Ok(done)
+        Ok(Target {
+            side: copy.side.other(),
+            asks: is_request(self.asked, copy),
+        })
     }
 
     /// The packet that an event delivers, where its copy is there.
@@ -323,14 +330,17 @@ fn is_request(asked: bool, copy: &Stamped) -> bool
     copy.side == Side::A && !asked && copy.packet.op().kind() == Kind::Rfc
 }
 
-/// Whether B took a request, and the greatest moment that was ticked, after a call at this moment.
-fn noted(asked: bool, now: u64, call: &Call<'_>) -> (bool, u64)
-    ensures asked { result.0 ≡ asked_after asked (call_of call.now now) }
-    ensures clock { result.1 ≡ clock_after now (call_of call.now now) }
+/// Whether B took a request, and the greatest moment that was ticked, after an event at this moment
+/// whose copy asks or doesn't.
+fn noted(asked: bool, now: u64, event: &Event<'_>, asks: bool) -> (bool, u64)
+    ensures asked { (came : PacketView) →
+        result.0 ≡ asked_after asked (call_of (happening_of event.now) asks came now) }
+    ensures clock { (came : PacketView) →
+        result.1 ≡ clock_after now (call_of (happening_of event.now) asks came now) }
 {
-    match call {
-        Call::Tick(moment) => (asked, now.max(*moment)),
-        Call::TakeRequest(_) => (true, now),
+    match event {
+        Event::Tick(_, moment) => (asked, now.max(*moment)),
+        Event::Deliver(_) => (asks || asked, now),
         _ => (asked, now),
     }
 }

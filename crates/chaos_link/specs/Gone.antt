@@ -1,5 +1,5 @@
 -- When a socket is gone.
-use Rattle.std.specs.Prelude.{ℕ, ℤ, pos, ◌≡◌, ◌||◌, Bool, true, false, if◌then◌else◌, Option, Some, None, Result, Ok, Err}
+use Rattle.std.specs.Prelude.{ℤ, pos, ◌||◌, Bool, true, false, if◌then◌else◌, Option, Some, None, Result, Ok, Err}
 use Rattle.std.specs.Ordering.{int_eq}
 use Rattle.std.specs.IoError.{error_kind, raw_os_error}
 use Rattle.std.specs.declared.io.Error.{Error}
@@ -7,8 +7,6 @@ use Rattle.std.specs.declared.io.ErrorKind.{ErrorKind}
 use Rattle.std.specs.declared.io.ErrorKind.TheVariants as kind
 use Rattle.chaos_link.specs.declared.link.Sent.{Sent}
 use Rattle.chaos_link.specs.declared.link.Sent.TheVariants as sending
-use Rattle.chaos_link.specs.declared.link.Received.{Received}
-use Rattle.chaos_link.specs.declared.link.Received.TheVariants as receiving
 
 -- The system knows no such descriptor (EBADF), or says that it is no socket's (ENOTSOCK).
 abbrev pub is_no_socket : ℤ → Bool
@@ -37,8 +35,3 @@ error_of (Err error) = Some error
 abbrev pub sent_after : Option Error → Sent
 sent_after None = sending.Sent
 sent_after (Some error) = if is_gone_by error then sending.Failed else sending.Sent
-
--- A link answers this to a receive after this error of its socket, or none: what the system doesn't hand over is nothing.
-abbrev pub HearsAfter : Option Error → Received → Type 0
-HearsAfter None result = (count : ℕ) × (result ≡ receiving.Got count)
-HearsAfter (Some error) result = result ≡ (if is_gone_by error then receiving.Failed else receiving.Nothing)

@@ -1,5 +1,5 @@
 -- What is known of peers.
-use Rattle.std.specs.Prelude.{◌≡◌, ◌==◌, ℕ, List, Option, option_map, find}
+use Rattle.std.specs.Prelude.{◌≡◌, ◌⊎◌, ◌==◌, ℕ, List, Option, Some, option_map, find}
 use Rattle.std.specs.List.{Any}
 use Rattle.std.specs.Option.{option_or}
 use Rattle.std.specs.declared.net.socket_addr.SocketAddrV4.{SocketAddrV4}
@@ -21,3 +21,7 @@ entry_of address hosts = option_map (λ host. host.socket) (find (λ host. host.
 -- where datagrams for this address go: to its entry's UDP address, else to the bridge
 abbrev pub socket_of : ℕ → PeersView → Option SocketAddrV4
 socket_of address peers = option_or (entry_of address peers.hosts) peers.bridge
+
+-- A peer or the bridge is at this UDP address.
+abbrev pub IsPeerAt : SocketAddrV4 → PeersView → Type 0
+IsPeerAt socket peers = Any (λ peer. peer.socket ≡ socket) peers.hosts ⊎ (peers.bridge ≡ Some socket)

@@ -9,6 +9,8 @@ use Rattle.chaos_link.specs.declared.link.Received.TheVariants as receiving
 use Rattle.chaos_link.specs.declared.limits.TheConstants.{MAX_WAIT}
 use Rattle.chaos_link.specs.Link.{Ask, Send, Receive}
 use Rattle.chaos_link.specs.Peers.{PeersView, socket_of}
+use Rattle.chaos_link.specs.declared.report.LinkReport.{LinkReport}
+use Rattle.chaos_link.specs.declared.socket_fault.SocketFault.{SocketFault}
 
 -- ---- The socket
 
@@ -33,18 +35,38 @@ datagrams_in (_ ∷ asks) = datagrams_in asks
 
 -- ---- The link
 
--- its socket and its peers, how many calls failed, and whether the last receive waited
+-- its socket and its peers, how many calls failed, whether the last receive waited, whether the link hears its peers and the
+-- bridge alone, and what it reports
 pub record UdpView (S : Type 0) : Type 0 where
   pub socket : S
   pub peers : PeersView
   pub failures : ℕ
   pub waits : Option Bool
+  pub closed : Bool
+  pub report : LinkReport
+
+-- a link that was asked nothing yet
+abbrev pub new_udp : {S : Type 0} → S → PeersView → Bool → UdpView S
+new_udp socket peers closed = record {
+  socket = socket;
+  peers = peers;
+  failures = 0;
+  waits = None;
+  closed = closed;
+  report = record { source = None; fault = None };
+}
 
 module _ {S : Type 0} where
-  -- the link, whose socket is this now, after a send with this answer
-  abbrev pub after_send : Sent → S → UdpView S → UdpView S
-  after_send sending.Failed socket link = record link { socket = socket; failures = with_failure link.failures }
-  after_send _ socket link = record link { socket = socket }
+  -- the link, whose socket is this now and whose last fault is this, after a send with this answer
+  abbrev pub after_send : Sent → S → Option SocketFault → UdpView S → UdpView S
+  after_send sending.Failed socket fault link = record link {
+    socket = socket;
+    failures = with_failure link.failures;
+    report = record link.report { fault = fault };
+  }
+  after_send sending.Sent socket fault link =
+      record link { socket = socket; report = record link.report { fault = fault } }
+  after_send sending.Unknown socket fault link = record link { socket = socket }
 
 -- the bytes for a peer go to the peer's UDP address; if there is no such peer, nothing goes out
 abbrev pub outgoing_to : Option SocketAddrV4 → List ℕ → List Outgoing

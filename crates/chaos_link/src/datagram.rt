@@ -168,7 +168,7 @@ pub(crate) fn data_count(bytes: &[u8]) -> Result<usize, PacketFault>
 
 /// One of the words of the bytes.
 #[inline(always)]
-fn word_at(bytes: &[u8], i: usize) -> u16
+pub(crate) fn word_at(bytes: &[u8], i: usize) -> u16
     requires { 2 * i + 1 < length bytes.now }
     ensures { result ≡ slice_index (words_of bytes.now) i }
 {

@@ -21,7 +21,9 @@ mod packets;
 mod pair;
 mod pairs;
 mod peers;
+mod report;
 mod socket;
+mod socket_fault;
 mod udp;
 
 pub use bundle::{fits, to_datagram2};
@@ -40,5 +42,7 @@ pub use mem::MemLink;
 pub use packets::{Packets, law_carries2, open_datagram, read_datagram};
 pub use pair::{MemPair, PairEnd, Side};
 pub use peers::{Peer, Peers};
+pub use report::{LinkReport, Reports};
 pub use socket::DatagramSocket;
+pub use socket_fault::{SocketCall, SocketFault};
 pub use udp::UdpLink;

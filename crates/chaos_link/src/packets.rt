@@ -5,7 +5,7 @@ ghost use Rattle.chaos_packet.specs.Words.{count_of, packet_at};
 ghost use Rattle.chaos_link.specs.Datagram.{datagram_len, words_of};
 ghost use Rattle.chaos_link.specs.Packets.{AtMostOneList, CarriesAll, IsDecidedByCarriesAll, packets_len, packets_fault, fault_of_all, fault_of_two, is_two, number_of, packets_at, packets_read};
 
-use crate::datagram::{MARK, checked_count, data_count, packet_of, read_over};
+use crate::datagram::{MARK, checked_count, data_count, packet_of, read_over, word_at};
 use crate::fault::LinkFault;
 use crate::limits::{MARK_BYTES, MAX_BUNDLE, MAX_PACKETS};
 use arrayvec::ArrayVec;
@@ -48,6 +48,17 @@ impl<'a> Packets<'a> {
     {
         let (words, count) = self.step()?;
         Some(packet_of(words, count))
+    }
+
+    /// The source of the next packet, which stays.
+    pub fn source(&self) -> Option<u16>
+        // The source is that of the next packet. There is none where no packet is left.
+        ensures { result ≡ option_map (λ packet. packet.src) (slice_get self.now 0) }
+    {
+        if self.left == 0 {
+            return None;
+        }
+        Some(word_at(self.words, 4))
     }
 
     /// Takes the next packet out into a place of the caller's, whatever packet stands there, and

@@ -1,8 +1,8 @@
 //! Where the datagrams of each host go.
-ghost use Rattle.std.specs.Prelude.{◌≡◌, ◌++◌, ◌∷◌, [], ◌↔◌, ◌<◌, ◌≤◌, length, IsErrOf, None, OnOk, OnErr, Some};
+ghost use Rattle.std.specs.Prelude.{◌≡◌, ◌++◌, ◌∷◌, [], ◌↔◌, ◌<◌, ◌≤◌, length, IsErrOf, IsTrue, None, OnOk, OnErr, Some};
 ghost use Rattle.std.specs.Net.Socket.{v4_port};
 ghost use Rattle.chaos_link.specs.declared.limits.TheConstants.{MAX_PEERS};
-ghost use Rattle.chaos_link.specs.Peers.{entry_of, socket_of, IsKnown};
+ghost use Rattle.chaos_link.specs.Peers.{entry_of, socket_of, IsKnown, IsPeerAt};
 
 use crate::fault::PeerFault;
 use crate::limits::MAX_PEERS;
@@ -90,6 +90,14 @@ impl Peers {
         ensures { result ≡ socket_of address self.now }
     {
         self.entry(address).or(self.bridge)
+    }
+
+    /// Whether a peer or the bridge is at this UDP address.
+    pub fn has_socket(&self, socket: SocketAddrV4) -> bool
+        // The result is true exactly where a peer or the bridge is at the UDP address.
+        ensures { IsTrue result ↔ IsPeerAt socket self.now }
+    {
+        self.hosts().iter().any(|peer| peer.socket == socket) || self.bridge() == Some(socket)
     }
 
     /// The UDP address of the entry with this Chaosnet address, where there is one.

@@ -2,6 +2,7 @@
 ghost use Rattle.std.specs.Prelude.{◌≤◌, [], ◌∷◌, List, Option, IfOk};
 ghost use Rattle.std.specs.Duration.{as_nanos};
 ghost use Rattle.std.specs.declared.io.Error.{Error};
+ghost use Rattle.std.specs.declared.net.socket_addr.SocketAddr.{SocketAddr};
 ghost use Rattle.chaos_link.specs.Gone.{error_of};
 ghost use Rattle.chaos_link.specs.Link.{AnyAsks, Asks};
 ghost use Rattle.chaos_link.specs.Udp.{SocketAsk, SendTo, ReceiveOne, WaitAtMost, Wait};
@@ -29,6 +30,10 @@ pub trait DatagramSocket {
     /// nothing, such as the system's, allows any answer.
     ghost answered: { Self → Option Error → Type 0 } = { λ _ _. Unit {0} };
 
+    /// From where the datagram may have come that the socket had for its last call. A socket that
+    /// claims nothing allows any address.
+    ghost came: { Self → SocketAddr → Type 0 } = { λ _ _. Unit {0} };
+
     /// Sends a datagram to this UDP address.
     ///
     /// # Errors
@@ -40,13 +45,16 @@ pub trait DatagramSocket {
         // Whether the call failed, and by which error, is what the socket says that it answered.
         ensures answered { answered self.new (error_of result) };
 
-    /// Receives a datagram into the front of the buffer, and answers how many bytes it has there.
+    /// Receives a datagram into the front of the buffer, and answers how many bytes it has there,
+    /// and from where it came.
     ///
     /// # Errors
     /// The socket's, also where nothing came.
-    fn receive_datagram(&mut self, buffer: &mut [u8; LINK_ROOM]) -> io::Result<usize>
+    fn receive_datagram(&mut self, buffer: &mut [u8; LINK_ROOM]) -> io::Result<(usize, SocketAddr)>
         // No more bytes come than the buffer has.
-        ensures within { IfOk result (λ count. count ≤ LINK_ROOM) }
+        ensures within { IfOk result (λ datagram. datagram.0 ≤ LINK_ROOM) }
+        // From where the datagram came is what the socket says of it.
+        ensures came { IfOk result (λ datagram. came self.new datagram.1) }
         // The socket is asked once for a datagram.
         ensures asked { Asks (asked self.old) (asked self.new) (ReceiveOne ∷ []) }
         // Whether the call failed, and by which error, is what the socket says that it answered.
@@ -83,9 +91,11 @@ impl DatagramSocket for UdpSocket {
         Ok(())
     }
 
-    fn receive_datagram(&mut self, buffer: &mut [u8; LINK_ROOM]) -> io::Result<usize> {
-        let (count, _from) = self.recv_from(buffer)?;
-        Ok(count)
+    fn receive_datagram(
+        &mut self,
+        buffer: &mut [u8; LINK_ROOM],
+    ) -> io::Result<(usize, SocketAddr)> {
+        self.recv_from(buffer)
     }
 
     fn set_wait(&mut self, wait: Duration) -> io::Result<()> {

@@ -1,25 +1,32 @@
 //! A link over a UDP socket.
-ghost use Rattle.std.specs.Prelude.{◌≡◌, ◌≢◌, ◌↔◌, ◌≤◌, ◌++◌, ◌∷◌, [], List, length, map, Option, Some, None, OnOk, OnErr, refl};
+ghost use Rattle.std.specs.Prelude.{◌≡◌, ◌≢◌, ◌↔◌, ◌≤◌, ◌++◌, ◌∷◌, [], IsTrue, List, length, map, Option, Result, Some, None, OnOk, OnErr, false, refl, true};
 ghost use Rattle.std.specs.declared.io.Error.{Error};
+ghost use Rattle.std.specs.declared.net.socket_addr.SocketAddr.{SocketAddr};
 ghost use Rattle.chaos_packet.specs.Count.{Rose, with_failure};
-ghost use Rattle.chaos_link.specs.Gone.{HearsAfter, sent_after};
+ghost use Rattle.chaos_link.specs.Gone.{sent_after};
+ghost use Rattle.chaos_link.specs.Heard.{Answered, HearsAfter, Takes, received_after, source_of};
 ghost use Rattle.chaos_link.specs.Link.{Asks, IsWithin, Receive, Send};
 ghost use Rattle.chaos_link.specs.Peers.{socket_of};
-ghost use Rattle.chaos_link.specs.Udp.{AsksSocket, ReceiveOne, SendTo, SocketAsk, after_send, datagrams_in, failures_after, outgoing_to, setting};
+ghost use Rattle.chaos_link.specs.SocketFault.{fault_so_far};
+ghost use Rattle.chaos_link.specs.Udp.{AsksSocket, ReceiveOne, SendTo, SocketAsk, after_send, datagrams_in, failures_after, new_udp, outgoing_to, setting};
 
 use crate::gone::is_gone;
 use crate::limits::{LINK_ROOM, MAX_WAIT};
 use crate::link::{Link, Received, Sent};
 use crate::peers::Peers;
+use crate::report::{LinkReport, Reports};
 use crate::socket::DatagramSocket;
+use crate::socket_fault::{SocketCall, SocketFault, fault_after};
 use std::io;
 use std::marker::Model;
-use std::net::{SocketAddrV4, UdpSocket};
+use std::net::{SocketAddr, SocketAddrV4, UdpSocket};
 use std::time::Duration;
 
 /// A link over a UDP socket. Datagrams go to the sockets of its peers and the bridge, and come from
-/// anybody. A contract sees the socket, the peers, the failures and whether the last receive
-/// waited. It says what the socket is asked, and nothing of what the system does then.
+/// anybody. A closed link drops what comes from anywhere else than from these sockets. A contract
+/// sees the socket, the peers, the failures, whether the last receive waited, whether the link is
+/// closed, and its report. It says what the socket is asked, and nothing of what the system does
+/// then.
 ///
 /// A receive that may wait does so for at most 10 milliseconds, where no datagram is there; the
 /// system may round that time up. Any other receive polls. To change from waiting to polling, or
@@ -39,6 +46,10 @@ pub struct UdpLink<S = UdpSocket> {
     failures: u64,
     /// Whether the socket's receives wait, once a receive has set that.
     waits: Option<bool>,
+    /// Whether it hears its peers and the bridge alone.
+    is_closed: bool,
+    /// What it knows of its last receive, and of all that it was asked since.
+    report: LinkReport,
 }
 
 impl<S> Model for UdpLink<S> {
@@ -51,21 +62,44 @@ impl<S> Model for UdpLink<S> {
       peers = link.peers;
       failures = link.failures;
       waits = link.waits;
+      closed = link.is_closed;
+      report = link.report;
     } };
 }
 
 impl<S> UdpLink<S> {
     /// A link over this socket to these peers. The call does nothing to the socket.
     pub fn new(socket: S, peers: Peers) -> Self
-        // A new link counts no failure, and no receive has set whether its socket waits.
-        ensures { result ≡ record { socket = socket; peers = peers; failures = 0; waits = None } }
+        // A new link hears anybody. It counts no failure and reports nothing, and no receive has
+        // set whether its socket waits.
+        ensures { result ≡ new_udp socket peers false }
     {
         UdpLink {
             socket,
             peers,
             failures: 0,
             waits: None,
+            is_closed: false,
+            report: LinkReport::of_source(None),
         }
+    }
+
+    /// The same link, which hears its peers and the bridge alone.
+    pub fn closed(socket: S, peers: Peers) -> Self
+        // A closed link begins as a new link does, and hears its peers and the bridge alone.
+        ensures { result ≡ new_udp socket peers true }
+    {
+        let mut link = UdpLink::new(socket, peers);
+        link.is_closed = true;
+        link
+    }
+}
+
+impl<S> Reports for UdpLink<S> {
+    ghost reported = { λ link. link.report };
+
+    fn report(&self) -> LinkReport {
+        self.report
     }
 }
 
@@ -101,25 +135,31 @@ impl<S: DatagramSocket> Link for UdpLink<S> {
             (map SendTo (outgoing_to (socket_of to_address self.old.peers) bytes.now)) }
         ensures asked { Asks (AsksSocket S.asked self.old) (AsksSocket S.asked self.new)
             (Send (record { to = to_address; bytes = bytes.now }) ∷ []) }
-        // Each Failed is counted once, up to the greatest count; nothing else changes.
-        ensures link { self.new ≡ after_send result self.new.socket self.old }
+        // Each Failed is counted once, up to the greatest count; beside the report nothing else
+        // changes. A send to nobody changes no report.
+        ensures link { self.new
+            ≡ after_send result self.new.socket self.new.report.fault self.old }
         // A send to a peer or the bridge fails exactly where the socket answered an error by which
         // it is gone. After any other error the datagram is lost, and the answer is Sent, the same
-        // as after none.
+        // as after none. The link reports the error with this call and its UDP address, where the
+        // error is a fault, and otherwise what it reported before.
         ensures answered { result ≢ Sent.Unknown → (error : Option Error)
-            × S.answered self.new.socket error × (result ≡ sent_after error) }
+            × S.answered self.new.socket error × (result ≡ sent_after error)
+            × ((to : SocketAddrV4) × (socket_of to_address self.old.peers ≡ Some to)
+            × (self.new.report.fault
+            ≡ fault_so_far (SocketCall.Send to) error self.old.report.fault)) }
     {
         let Some(peer) = self.peers.find(to_address) else {
             return Sent::Unknown;
         };
-        let sent = send_to(&mut self.socket, bytes, peer);
+        let sent = send_to(&mut self.socket, bytes, peer, &mut self.report.fault);
         if sent == Sent::Failed {
             count_failure(&mut self.failures);
         }
         sent
     }
 
-    /// Receives a datagram from anybody. A datagram of more than 2,048 bytes is cut to its first
+    /// Receives a datagram, from whomever the link hears. A datagram of more than 2,048 bytes is cut to its first
     /// 2,048. These are too many for any packet, so that they are refused as a datagram.
     fn receive(&mut self, buffer: &mut [u8; LINK_ROOM], may_wait: bool) -> Received
         // A receive is answered Failed only where the link's count rose; otherwise the count stays.
@@ -141,16 +181,23 @@ impl<S: DatagramSocket> Link for UdpLink<S> {
         ensures waits { result ≢ Received.Failed → self.new.waits ≡ Some may_wait }
         ensures socket { result ≢ Received.Failed → Asks (S.asked self.old.socket)
             (S.asked self.new.socket) (setting self.old.waits may_wait ++ ReceiveOne ∷ []) }
+        // The link stays closed, or open to anybody.
+        ensures closed { self.new.closed ≡ self.old.closed }
         // A receive whose socket is set as its caller lets it fails exactly where the socket
-        // answered an error by which it is gone. After any other error nothing came, and otherwise
-        // a datagram. A receive whose socket can't be set fails.
-        ensures answered { self.new.waits ≡ Some may_wait →
-            (error : Option Error) × S.answered self.new.socket error × HearsAfter error result }
+        // answered an error by which it is gone. After any other error nothing came. Otherwise a
+        // datagram came, unless the link is closed and the datagram came from no UDP address of a
+        // peer or the bridge: then nothing came. The link reports from where the datagram came
+        // that it answers, and the error where the error is a fault, and nothing else. A receive
+        // whose socket can't be set fails.
+        ensures answered { self.new.waits ≡ Some may_wait → (heard : Result SocketAddr Error)
+            × Answered S.answered S.came self.new.socket heard
+            × HearsAfter self.old.closed self.old.peers heard result self.new.report }
     {
-        let received = match set_wait(&mut self.socket, &mut self.waits, may_wait) {
-            Ok(()) => receive_from(&mut self.socket, buffer),
-            Err(_) => Received::Failed,
+        let (received, report) = match set_wait(&mut self.socket, &mut self.waits, may_wait) {
+            Ok(()) => receive_from(&mut self.socket, buffer, &self.peers, self.is_closed),
+            Err(fault) => (Received::Failed, LinkReport::of_fault(Some(fault))),
         };
+        self.report = report;
         if received == Received::Failed {
             count_failure(&mut self.failures);
         }
@@ -170,30 +217,86 @@ fn count_failure(failures: &mut u64)
 }
 
 /// Sends a datagram, which is lost where the system doesn't send it.
-fn send_to<S: DatagramSocket>(socket: &mut S, bytes: &[u8], peer: SocketAddrV4) -> Sent
+fn send_to<S: DatagramSocket>(
+    socket: &mut S,
+    bytes: &[u8],
+    peer: SocketAddrV4,
+    fault: &mut Option<SocketFault>,
+) -> Sent
     ensures asked { Asks (S.asked socket.old) (S.asked socket.new)
         (SendTo (record { to = peer; bytes = bytes.now }) ∷ []) }
     ensures answered { (error : Option Error) × S.answered socket.new error
-        × (result ≡ sent_after error) }
+        × (result ≡ sent_after error)
+        × (fault.new ≡ fault_so_far (SocketCall.Send peer) error fault.old) }
 {
     match socket.send_datagram(bytes, peer) {
         Ok(()) => Sent::Sent,
-        Err(e) if is_gone(&e) => Sent::Failed,
-        Err(_) => Sent::Sent,
+        Err(error) => {
+            *fault = fault_after(SocketCall::Send(peer), error, *fault);
+            if is_gone(&error) {
+                Sent::Failed
+            } else {
+                Sent::Sent
+            }
+        }
     }
 }
 
-/// Receives a datagram, or nothing where none came in time or the system couldn't hand it over.
-fn receive_from<S: DatagramSocket>(socket: &mut S, buffer: &mut [u8; LINK_ROOM]) -> Received
-    ensures within { IsWithin LINK_ROOM result }
+/// Receives a datagram, or nothing where none came in time, where the system couldn't hand it over,
+/// or where a closed link doesn't hear from where it came. Reports what is known of it.
+fn receive_from<S: DatagramSocket>(
+    socket: &mut S,
+    buffer: &mut [u8; LINK_ROOM],
+    peers: &Peers,
+    is_closed: bool,
+) -> (Received, LinkReport)
+    ensures within { IsWithin LINK_ROOM result.0 }
     ensures asked { Asks (S.asked socket.old) (S.asked socket.new) (ReceiveOne ∷ []) }
-    ensures answered { (error : Option Error) × S.answered socket.new error
-        × HearsAfter error result }
+    ensures answered { (heard : Result SocketAddr Error)
+        × Answered S.answered S.came socket.new heard
+        × HearsAfter is_closed peers.now heard result.0 result.1 }
 {
     match socket.receive_datagram(buffer) {
-        Ok(count) => Received::Got(count),
-        Err(e) if is_gone(&e) => Received::Failed,
-        Err(_) => Received::Nothing,
+        Ok((count, from)) if takes(is_closed, peers, from) => {
+            (Received::Got(count), LinkReport::of_source(source_of(from)))
+        }
+        Ok(_) => (Received::Nothing, LinkReport::of_source(None)),
+        Err(error) => {
+            let fault = fault_after(SocketCall::Receive, error, None);
+            (received_after(&error), LinkReport::of_fault(fault))
+        }
+    }
+}
+
+/// What a link answers to a receive after this error of its socket.
+fn received_after(error: &io::Error) -> Received
+    ensures { result ≡ received_after error.now }
+{
+    if is_gone(error) {
+        Received::Failed
+    } else {
+        Received::Nothing
+    }
+}
+
+/// Whether a link takes what comes from there.
+fn takes(is_closed: bool, peers: &Peers, from: SocketAddr) -> bool
+    ensures { IsTrue result ↔ Takes is_closed peers.now from }
+{
+    match (is_closed, from) {
+        (false, _) => true,
+        (true, SocketAddr::V4(from)) => peers.has_socket(from),
+        (true, SocketAddr::V6(_)) => false,
+    }
+}
+
+/// The UDP address, of IPv4.
+fn source_of(from: SocketAddr) -> Option<SocketAddrV4>
+    ensures { result ≡ source_of from }
+{
+    match from {
+        SocketAddr::V4(from) => Some(from),
+        SocketAddr::V6(_) => None,
     }
 }
 
@@ -202,7 +305,7 @@ fn set_wait<S: DatagramSocket>(
     socket: &mut S,
     set: &mut Option<bool>,
     waits: bool,
-) -> io::Result<()>
+) -> Result<(), SocketFault>
     ensures ok { OnOk result (set.new ≡ Some waits) }
     ensures err { OnErr result (set.new ≡ set.old) }
     // A socket that is set so already is asked nothing, and so doesn't fail.
@@ -218,9 +321,19 @@ fn set_wait<S: DatagramSocket>(
         return Ok(());
     }
     if set.is_none() {
-        socket.set_wait(Duration::from_millis(MAX_WAIT))?;
+        if let Err(error) = socket.set_wait(Duration::from_millis(MAX_WAIT)) {
+            return Err(SocketFault {
+                call: SocketCall::SetWait,
+                error,
+            });
+        }
     }
-    socket.set_waits(waits)?;
+    if let Err(error) = socket.set_waits(waits) {
+        return Err(SocketFault {
+            call: SocketCall::SetWaits,
+            error,
+        });
+    }
     *set = Some(waits);
     Ok(())
 }

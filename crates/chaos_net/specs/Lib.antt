@@ -12,3 +12,10 @@ pub mod Lending
 pub mod Running
 pub mod New
 pub mod Sound
+pub mod MadeTurns
+pub mod Come
+pub mod Turns
+pub mod System
+pub mod Queue
+pub mod SystemHello
+pub mod TurnHalves

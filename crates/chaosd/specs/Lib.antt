@@ -1,7 +1,6 @@
 pub mod Config
 pub mod Framed
 pub mod Hearing
-pub mod Paths
 pub mod Patience
 pub mod Routes
 pub mod Skipped

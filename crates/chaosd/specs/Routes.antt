@@ -3,7 +3,7 @@ use Rattle.std.specs.Prelude.{◌≡◌, ℕ, if◌then◌else◌, is_some, Opti
 use Rattle.chaos_link.specs.Peers.{PeersView, socket_of}
 use Rattle.chaosd.specs.Config.{config_by}
 use Rattle.chaos_conn.specs.declared.limits.TheConstants.{USUAL_WINDOW}
-use Rattle.chaosd_file.specs.declared.limits.TheConstants.{NOBODY}
+use Rattle.chaosd_ask.specs.declared.limits.TheConstants.{NOBODY}
 use Rattle.chaosd_line.specs.Framings.{carriage_of}
 use Rattle.chaosd_line.specs.declared.line.Ask.{Ask}
 use Rattle.chaosd_line.specs.declared.line.Calling.{Calling}

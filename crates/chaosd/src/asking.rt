@@ -12,17 +12,16 @@ use crate::peer_socket::PeerSocket;
 use crate::run_ends::tell_unopened;
 use crate::terminals::Terminals;
 use crate::typed::{ByLook, Typed, Typing};
-use crate::unanswered::Unanswered;
 use crate::waiting::{Waiting, WaitingSocket};
 use chaos_chudp::ChudpLink;
 use chaos_conn::USUAL_WINDOW;
 use chaos_link::{Link, Peer, Peers, UdpLink};
-use chaosd_clock::Epoch;
-use chaosd_copies::ExitStatus;
-use chaosd_file::{HandleName, NOBODY, Notes, ScriptEnd, Why, run_ask_by};
+use chaos_node::{Epoch, NodeFault};
+use chaosd_ask::{HandleName, NOBODY, Notes, ScriptEnd, run_script};
 use chaosd_io::RunFault;
 use chaosd_line::{Ask, Framing};
-use file_client::{Patience, Route, Shown, Timing};
+use file_client::{Client, ClientHost, ClockDriver, Patience, Route, Shown, Timing};
+use file_transfer::ExitStatus;
 use std::fs::{File, Files};
 use std::io;
 use std::io::{Read, Write};
@@ -82,6 +81,17 @@ fn ask_over<R: AllocGlobal + Clock + Eprint + Input + Print, L: Link>(
     ask_through(rt, link, asked, typing, &mut reader, &mut writer)
 }
 
+/// The host of the client that asks, and the timing of its run, which begins now.
+fn host_of<R: AllocGlobal + Clock>(
+    rt: &R,
+    asked: &Asked,
+) -> Result<(ClientHost, Timing), NodeFault> {
+    let epoch = Epoch::new(rt)?;
+    let host = ClientHost::new(rt.alloc(), &asked.route, epoch.passed())?;
+    let patience = asked.patience;
+    Ok((host, Timing { epoch, patience }))
+}
+
 /// Puts the reader's script over the link, and its replies into the writer.
 fn ask_through<'a, R: AllocGlobal + Clock + Eprint, L: Link, I: Read, W: Write>(
     rt: &'a R,
@@ -93,19 +103,20 @@ fn ask_through<'a, R: AllocGlobal + Clock + Eprint, L: Link, I: Read, W: Write>(
 ) -> Answered {
     let mut typed = Typed::new(rt, reader, typing, asked.is_strict);
     let mut notes = Notes::new();
-    let patience = asked.patience;
-    let end = match Epoch::new(rt) {
-        Ok(epoch) => run_ask_by::<ByLook, R, Typed<'a, R, I>, W, L>(
-            rt,
-            rt.alloc(),
-            &mut typed,
-            writer,
-            link,
-            &mut notes,
-            &asked.route,
-            Timing { epoch, patience },
-        ),
-        Err(fault) => Err(fault),
+    let end = match host_of(rt, asked) {
+        Ok((mut host, timing)) => {
+            let mut client = Client {
+                host: &mut host,
+                driver: ClockDriver::new(rt, link, timing),
+            };
+            run_script::<ByLook, ClockDriver<'_, '_, R, L>, Typed<'a, R, I>, W>(
+                &mut client,
+                &mut typed,
+                writer,
+                &mut notes,
+            )
+        }
+        Err(fault) => Err(RunFault::from(fault)),
     };
     if end.is_ok() {
         tell_written(rt, notes.replies.written());
@@ -120,20 +131,23 @@ fn end_asked<R: Clock + Eprint + Print>(
     waiting: &Waiting<'_, R>,
     answered: Answered,
 ) -> ExitStatus {
-    let Answered { end, notes } = answered;
-    let has_error = notes.replies.has_error();
-    match notes.why {
+    let Answered { end, mut notes } = answered;
+    match notes.no_reply.take() {
         // It was reported that the host is no peer.
-        Some(Why::NoReply(_)) if asked.server.address == NOBODY => end_script(rt, &end, &None),
-        Some(Why::NoReply(why)) => {
+        Some(_) if asked.server.address == NOBODY => end_script(rt, &end, &notes),
+        Some(why) => {
             let client = Peer {
                 address: asked.route.me,
                 socket: asked.socket,
             };
-            end_unanswered(rt, &end, Unanswered::new(&why, asked.server, client))
+            let _ = waiting.tell_no_reply(client, &"", &why);
+            end_script(rt, &end, &notes)
         }
-        _ if waiting.is_over() => end_refused(rt, asked.server),
-        why => strict_status(end_script(rt, &end, &why), asked.is_strict && has_error),
+        None if waiting.is_over() => end_refused(rt, asked.server),
+        None => {
+            let was_error = asked.is_strict && notes.replies.has_error();
+            strict_status(end_script(rt, &end, &notes), was_error)
+        }
     }
 }
 
@@ -210,7 +224,7 @@ where
     R: AllocGlobal + Clock + Eprint + Files<File = File> + Input + Net + Print,
 {
     if !has_input(rt) {
-        return end_script(rt, &Err(RunFault::ReadFault), &None);
+        return end_script(rt, &Err(RunFault::ReadFault), &Notes::new());
     }
     let asked = asked_of(rt, &line);
     let waiting = Waiting::new(rt, asked.server, terminals.errors);
@@ -234,22 +248,12 @@ where
     }
 }
 
-/// Reports why a command of a script got no reply, and gives the exit status.
-fn end_unanswered<R: Eprint>(
-    rt: &R,
-    end: &Result<ScriptEnd, RunFault>,
-    unanswered: Unanswered<'_>,
-) -> ExitStatus {
-    let _ = eprintln!(rt; "chaosd: {unanswered}");
-    end_script(rt, end, &None)
-}
-
 /// Reports that nobody listens where the server is to be, so that the first command gets no reply,
 /// and gives the exit status.
 fn end_refused<R: Eprint + Print>(rt: &R, server: Peer) -> ExitStatus {
     let _ = eprintln!(rt; "chaosd: no server listens at {}", server.socket);
     match println!(rt; "no reply") {
         Ok(()) => ExitStatus::Refused,
-        Err(_) => end_script(rt, &Err(RunFault::WriteFault), &None),
+        Err(_) => end_script(rt, &Err(RunFault::WriteFault), &Notes::new()),
     }
 }

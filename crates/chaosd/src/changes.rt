@@ -1,16 +1,14 @@
 //! The runs of `delete` and `rename`: what another host does with its files.
-use crate::dialogs::{Caller, Work, run_work};
+use crate::dialogs::{Caller, Work};
 use crate::file_words::{CHANGE_UNKNOWN, FileWords};
 use crate::progress::ProgressLine;
 use chaos_file::MAX_PATH;
 use chaos_link::Link;
-use chaosd_clock::Dial;
-use chaosd_copies::{Deletes, ExitStatus, Outcome, Session, Target, Teller, Viewer, run_copies};
-use chaosd_copy::Talk;
-use chaosd_line::{Delete, Rename};
-use file_client::Call;
-use std::fs::{File, Files};
-use std::net::Net;
+use chaos_node::Dial;
+use chaosd_line::{Calling, Delete, Rename};
+use file_client::{Client, ClientHost, ClockDriver, Timing};
+use file_copy::Talk;
+use file_transfer::{Deletes, ExitStatus, Outcome, Session, Target, Teller, Viewer, run_copies};
 
 /// Reports changes: nothing of a change that was made.
 fn words_of<'a, 'r, R: Eprint>(
@@ -35,27 +33,34 @@ fn no_progress<'a, 'r, R: AllocGlobal + Eprint>(
 }
 
 impl<R: AllocGlobal + Dial + Eprint> Work<R> for Delete<'_> {
-    fn run<L: Link>(&self, rt: &R, call: Call<'_, R, L>, caller: &Caller<'_, '_, R>) -> ExitStatus {
-        let mut deletes = Deletes {
-            session: Session::new(call, no_progress(rt, caller), self.calling.login),
+    fn calling(&self) -> &Calling<'_> {
+        &self.calling
+    }
+
+    fn run<'v, 'c, L: Link>(
+        &self,
+        rt: &'v R,
+        host: ClientHost,
+        clock: &'c R,
+        link: &'c mut L,
+        timing: Timing,
+        caller: &Caller<'v, '_, R>,
+    ) -> ExitStatus {
+        let progress = no_progress(rt, caller);
+        let mut words = words_of(&*rt, &*caller);
+        let mut host = host;
+        let driver = ClockDriver::new(clock, link, timing);
+        let client = Client {
+            host: &mut host,
+            driver,
         };
-        let status = run_copies(
-            &mut deletes,
-            &mut words_of(rt, caller),
-            self.paths.as_slice(),
-        );
+        let mut deletes = Deletes {
+            session: Session::new(client, progress, self.calling.login),
+        };
+        let status = run_copies(&mut deletes, &mut words, self.paths.as_slice());
         deletes.session.end();
         status
     }
-}
-
-/// Runs `delete`, and gives the exit status.
-#[inline(never)]
-pub(crate) fn run_delete_line<R>(rt: &R, line: &Delete<'_>, is_terminal: bool) -> ExitStatus
-where
-    R: AllocGlobal + Dial + Eprint + Files<File = File> + Net,
-{
-    run_work(rt, &line.calling, is_terminal, line)
 }
 
 /// Renames a file, and says what came of it.
@@ -70,20 +75,31 @@ fn renamed<T: Talk, V: Viewer>(
 }
 
 impl<R: AllocGlobal + Dial + Eprint> Work<R> for Rename<'_> {
-    fn run<L: Link>(&self, rt: &R, call: Call<'_, R, L>, caller: &Caller<'_, '_, R>) -> ExitStatus {
-        let mut session = Session::new(call, no_progress(rt, caller), self.calling.login);
+    fn calling(&self) -> &Calling<'_> {
+        &self.calling
+    }
+
+    fn run<'v, 'c, L: Link>(
+        &self,
+        rt: &'v R,
+        host: ClientHost,
+        clock: &'c R,
+        link: &'c mut L,
+        timing: Timing,
+        caller: &Caller<'v, '_, R>,
+    ) -> ExitStatus {
+        let progress = no_progress(rt, caller);
+        let mut words = words_of(&*rt, &*caller);
+        let mut host = host;
+        let driver = ClockDriver::new(clock, link, timing);
+        let client = Client {
+            host: &mut host,
+            driver,
+        };
+        let mut session = Session::new(client, progress, self.calling.login);
         let outcome = renamed(&mut session, self);
-        words_of(rt, caller).tell(self.from, &outcome);
+        words.tell(self.from, &outcome);
         session.end();
         outcome.status()
     }
-}
-
-/// Runs `rename`, and gives the exit status.
-#[inline(never)]
-pub(crate) fn run_rename_line<R>(rt: &R, line: &Rename<'_>, is_terminal: bool) -> ExitStatus
-where
-    R: AllocGlobal + Dial + Eprint + Files<File = File> + Net,
-{
-    run_work(rt, &line.calling, is_terminal, line)
 }

@@ -7,10 +7,9 @@ ghost use Rattle.chaosd_line.specs.Values.{is_contact};
 use crate::config::config_of;
 use chaos_conn::ConnConfig;
 use chaos_link::Link;
-use chaosd_clock::{Dial, Epoch};
-use chaosd_io::RunFault;
+use chaos_node::{Dial, Epoch, NodeFault};
 use chaosd_line::Calling;
-use file_client::{Contact, Patience, Route, Timed, Timing, retransmit_for, round_trip};
+use file_client::{ClockDriver, Contact, Patience, Route, Timing, retransmit_for, round_trip};
 use std::fs::{File, Files};
 use std::io;
 use std::io::Read;
@@ -52,7 +51,7 @@ fn drawn<R: Files<File = File>>(rt: &R) -> io::Result<(u16, u8)> {
 
 /// A run that begins now, with first numbers and indices that nobody can guess. Where the system
 /// gives no random bytes, they come from the clock.
-fn epoch_of<R: Dial + Files<File = File>>(rt: &R) -> Result<Epoch, RunFault> {
+fn epoch_of<R: Dial + Files<File = File>>(rt: &R) -> Result<Epoch, NodeFault> {
     match drawn(rt) {
         Ok((first, passed)) => Epoch::drawn(rt, first, passed),
         Err(_) => Epoch::new(rt),
@@ -62,11 +61,11 @@ fn epoch_of<R: Dial + Files<File = File>>(rt: &R) -> Result<Epoch, RunFault> {
 /// The numbers and the patience of a copy.
 ///
 /// # Errors
-/// `ClockFault` where the clock can't be read.
+/// `Clock` where the clock can't be read.
 pub(crate) fn timing_of<R: Dial + Files<File = File>>(
     rt: &R,
     calling: &Calling<'_>,
-) -> Result<Timing, RunFault>
+) -> Result<Timing, NodeFault>
     // A reply is waited for as long as the line says.
     ensures { IfOk result (λ timing. timing.patience ≡ patience_by calling.now.timeout) }
 {
@@ -83,7 +82,7 @@ pub(crate) fn route_of<R: AllocGlobal + Dial, L: Link>(
     link: &mut L,
     calling: &Calling<'_>,
     timing: Timing,
-) -> Result<Route, RunFault>
+) -> Result<Route, NodeFault>
     // The route leads from the line's host to its server, for its contact, by its carriage and
     // windows. What is kept is sent again after the time that goes by a round trip.
     ensures { IfOk result (IsRouteOf calling.now) }
@@ -95,7 +94,8 @@ pub(crate) fn route_of<R: AllocGlobal + Dial, L: Link>(
         config: ConnConfig::with_window(calling.window),
         carriage: calling.framing.carriage(),
     };
-    let trip = round_trip(rt.alloc(), &mut Timed::new(rt, link, timing), &usual)?;
+    let mut driver = ClockDriver::new(rt, link, timing);
+    let trip = round_trip(rt.alloc(), &mut driver, &usual, timing.epoch.passed())?;
     Ok(Route {
         config: config_of(calling.window, retransmit_for(trip)),
         ..usual

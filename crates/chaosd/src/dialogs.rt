@@ -3,62 +3,74 @@ use crate::client::{route_of, timing_of};
 use crate::framed::hops_of;
 use crate::network::link_to_server;
 use crate::run_ends::{tell_unbegun, tell_unopened};
-use crate::unanswered::Unanswered;
 use crate::waiting::Waiting;
 use chaos_chudp::ChudpLink;
 use chaos_link::{Link, Peer};
-use chaosd_clock::Dial;
-use chaosd_copies::ExitStatus;
+use chaos_node::Dial;
 use chaosd_io::RunFault;
 use chaosd_line::{Calling, Framing};
-use file_client::{Call, NoReply};
+use file_client::{ClientHost, Timing};
+use file_transfer::ExitStatus;
 use std::fs::{File, Files};
 use std::net::Net;
 
-/// A client's wait for its server, and where the client is.
+/// A client's wait for its server, where the client is, and who reads what it reports.
 #[derive(Drop)]
 pub(crate) struct Caller<'a, 'r, R> {
     pub(crate) waiting: &'a Waiting<'r, R>,
     pub(crate) client: Peer,
-}
-
-impl<R: Eprint> Caller<'_, '_, R> {
-    /// Why the server didn't answer, in words for a user.
-    pub(crate) fn unanswered<'w>(&self, why: &'w NoReply) -> Unanswered<'w> {
-        Unanswered {
-            why,
-            is_refused: self.waiting.is_over(),
-            server: self.waiting.server(),
-            client: self.client,
-        }
-    }
+    /// Whether standard error is a terminal.
+    pub(crate) is_terminal: bool,
 }
 
 /// What a line asks of a server's files.
 pub(crate) trait Work<R: Dial> {
-    /// Does it over a call, which it ends, and reports what came of each file. The result is the
-    /// exit status.
-    fn run<L: Link>(&self, rt: &R, call: Call<'_, R, L>, caller: &Caller<'_, '_, R>) -> ExitStatus;
+    /// As whom which server is called, and how.
+    fn calling(&self) -> &Calling<'_>;
+
+    /// Whether the user is shown that the client waits for the server.
+    fn shows_waiting(&self, is_terminal: bool) -> bool {
+        is_terminal
+    }
+
+    /// The exit status where the work can't begin, which is then reported. It is asked for before
+    /// the socket is opened, which would take the place of a standard stream that is closed.
+    fn refusal(&self, _rt: &R) -> Option<ExitStatus> {
+        None
+    }
+
+    /// Does it by a client of this host over this link, whose connection it ends, and reports what
+    /// came of each file. The result is the exit status.
+    fn run<'v, 'c, L: Link>(
+        &self,
+        rt: &'v R,
+        host: ClientHost,
+        clock: &'c R,
+        link: &'c mut L,
+        timing: Timing,
+        caller: &Caller<'v, '_, R>,
+    ) -> ExitStatus;
 }
 
-/// Calls a server and does the work over that. Where a user asked for more, it reports that it
-/// waits for the server.
-pub(crate) fn run_work<R, W: Work<R>>(
-    rt: &R,
-    calling: &Calling<'_>,
-    is_told: bool,
-    work: &W,
-) -> ExitStatus
+/// Calls a server and does the work over that. On a terminal it may report that it waits for the
+/// server.
+#[inline(never)]
+pub(crate) fn run_work<R, W: Work<R>>(rt: &R, work: &W, is_terminal: bool) -> ExitStatus
 where
     R: AllocGlobal + Dial + Eprint + Files<File = File> + Net,
 {
-    let waiting = Waiting::new(rt, calling.server, is_told);
+    if let Some(status) = work.refusal(rt) {
+        return status;
+    }
+    let calling = work.calling();
+    let waiting = Waiting::new(rt, calling.server, work.shows_waiting(is_terminal));
     let caller = Caller {
         waiting: &waiting,
         client: Peer {
             address: calling.address,
             socket: calling.socket,
         },
+        is_terminal,
     };
     let mut link = match link_to_server(rt, calling) {
         Ok(link) => link,
@@ -73,7 +85,7 @@ where
     }
 }
 
-/// Does the work over a link.
+/// Does the work over a link, by a call whose times go by the round trip, which is measured first.
 fn work_over<R, L: Link, W: Work<R>>(
     rt: &R,
     link: &mut L,
@@ -84,22 +96,16 @@ fn work_over<R, L: Link, W: Work<R>>(
 where
     R: AllocGlobal + Dial + Eprint + Files<File = File> + Net,
 {
-    match call_over(rt, link, calling) {
-        Ok(call) => work.run(rt, call, caller),
-        Err(fault) => tell_unbegun(rt, fault),
+    let timing = match timing_of(rt, calling) {
+        Ok(timing) => timing,
+        Err(fault) => return tell_unbegun(rt, RunFault::from(fault)),
+    };
+    let route = match route_of(rt, link, calling, timing) {
+        Ok(route) => route,
+        Err(fault) => return tell_unbegun(rt, RunFault::from(fault)),
+    };
+    match ClientHost::new(rt.alloc(), &route, timing.epoch.passed()) {
+        Ok(host) => work.run(rt, host, rt, link, timing, caller),
+        Err(fault) => tell_unbegun(rt, RunFault::from(fault)),
     }
-}
-
-/// A call over a link, by the round trip, which is measured first.
-fn call_over<'a, R, L: Link>(
-    rt: &'a R,
-    link: &'a mut L,
-    calling: &Calling<'_>,
-) -> Result<Call<'a, R, L>, RunFault>
-where
-    R: AllocGlobal + Dial + Eprint + Files<File = File> + Net,
-{
-    let timing = timing_of(rt, calling)?;
-    let route = route_of(rt, &mut *link, calling, timing)?;
-    Call::new(rt, rt.alloc(), link, &route, timing)
 }

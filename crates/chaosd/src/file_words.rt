@@ -3,8 +3,9 @@ ghost use Rattle.std.specs.Prelude.{None};
 
 use crate::dialogs::Caller;
 use chaos_file::{MAX_FILE, MAX_PATH, PrintedName, Reply, read_reply};
-use chaosd_copies::{Contents, Lost, Outcome, Target, Teller};
+use chaosd_io::RunFault;
 use file_client::{NoReply, Shown};
+use file_transfer::{Contents, Lost, Outcome, Target, Teller};
 use std::fmt::{Display, Formatter};
 use std::{fmt, io};
 
@@ -125,6 +126,11 @@ impl<R: Eprint> Teller<NoReply> for FileWords<'_, '_, '_, R> {
     fn tell(&mut self, name: &str, outcome: &Outcome<NoReply>) {
         let rt = self.rt;
         let name = PrintedName(name);
+        let Caller {
+            waiting,
+            client,
+            ..
+        } = *self.caller;
         let _ = match outcome {
             Outcome::Copied(contents) if self.is_told => told_copied(rt, name, contents),
             Outcome::Copied(_) | Outcome::Changed => Ok(()),
@@ -135,13 +141,16 @@ impl<R: Eprint> Teller<NoReply> for FileWords<'_, '_, '_, R> {
             Outcome::NotTried => told_missed(rt, name, &"not tried"),
             Outcome::Unwritten(fault) => told_unwritten(rt, self.target, name, fault),
             Outcome::Unread(fault) => told_unread(rt, name, fault),
-            Outcome::Failed(fault) => told_missed(rt, name, fault),
+            Outcome::Failed(fault) => told_missed(rt, name, &RunFault::from(*fault)),
             Outcome::Refused(reply) => told_missed(rt, name, &Shown(error_text(reply))),
             Outcome::Strange(reply) => told_strange(rt, name, reply),
-            Outcome::NoReply(why) => told_missed(rt, name, &self.caller.unanswered(why)),
+            Outcome::Unanswered(why) => {
+                let lead = format_args!("{name}: ");
+                waiting.tell_no_reply(client, &lead, why)
+            }
             Outcome::Unknown(why) => {
-                let why = self.caller.unanswered(why);
-                told_missed(rt, name, &format_args!("{}: {why}", self.unknown))
+                let lead = format_args!("{name}: {}: ", self.unknown);
+                waiting.tell_no_reply(client, &lead, why)
             }
         };
     }

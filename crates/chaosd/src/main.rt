@@ -1,8 +1,10 @@
 //! `chaosd`: a thin main over the command line (`chaosd_line`) and the engines (`chaosd_show`,
-//! `chaosd_lab`, `chaosd_filelab`, `chaosd_file`, `file_server`, `chaosd_copies` over
+//! `chaosd_lab`, `chaosd_ask`, `file_server`, `file_transfer` over
 //! `file_client`). It hands the words to the one, opens the folder and the sockets that they name,
 //! hands these with standard input and output to the others, and ends with their status.
 #![tactic(auto)]
+
+ghost use Rattle.std.specs.Prelude.{◌≡◌, ◌≤◌, length, true};
 
 mod asking;
 mod changes;
@@ -23,25 +25,24 @@ mod skipped;
 mod status;
 mod terminals;
 mod typed;
-mod unanswered;
 mod waiting;
 mod words;
 
 use crate::asking::run_ask_line;
-use crate::changes::{run_delete_line, run_rename_line};
-use crate::copies::{run_get_line, run_put_line};
 use crate::descriptors::fill_descriptors;
+use crate::dialogs::run_work;
 use crate::network::run_loop_line;
-use crate::runs::{run_filelab_line, run_lab_line, run_show_line};
+use crate::runs::{run_script_line, run_show_line};
 use crate::serving::run_serve_line;
 use crate::skipped::skip_marked;
 use crate::status::refused_status;
 use crate::terminals::Terminals;
 use crate::words::{Mark, WordsFault, words_of};
-use chaosd_copies::ExitStatus;
 use chaosd_io::RunFault;
+use chaosd_lab::{FileStage, LabStage};
 use chaosd_line::{Line, LineFault, parse_line};
 use clap::Error;
+use file_transfer::ExitStatus;
 use std::fs::{File, Files};
 use std::io::IsTerminal;
 use std::net::Net;
@@ -58,15 +59,15 @@ where
 {
     match line {
         Line::Show(show) => run_show_line(rt, show),
-        Line::Lab => run_lab_line(rt),
-        Line::FileLab => run_filelab_line(rt),
+        Line::Lab => run_script_line::<LabStage, R>(rt),
+        Line::FileLab => run_script_line::<FileStage, R>(rt),
         Line::Loop(carriage) => run_loop_line(rt, carriage),
         Line::Ask(ask) => run_ask_line(rt, ask, terminals),
         Line::Serve(serve) => run_serve_line(rt, serve),
-        Line::Get(get) => run_get_line(rt, &get, terminals.errors),
-        Line::Put(put) => run_put_line(rt, &put, terminals.errors),
-        Line::Delete(delete) => run_delete_line(rt, &delete, terminals.errors),
-        Line::Rename(rename) => run_rename_line(rt, &rename, terminals.errors),
+        Line::Get(get) => run_work(rt, &get, terminals.errors),
+        Line::Put(put) => run_work(rt, &put, terminals.errors),
+        Line::Delete(delete) => run_work(rt, &delete, terminals.errors),
+        Line::Rename(rename) => run_work(rt, &rename, terminals.errors),
     }
 }
 
@@ -78,6 +79,29 @@ fn refuse<R: Print + Eprint>(rt: &R, error: &Error) -> ExitStatus {
         let _ = eprintln!(rt; "chaosd: {}", RunFault::WriteFault);
     }
     refused_status(LineFault::from(error.kind()), is_shown)
+}
+
+/// Whether the words ask for help about `help`, which clap takes for a mistake.
+fn is_help_of_help(words: &[String]) -> bool
+    ensures { result ≡ true → 1 ≤ length words.now }
+{
+    match words {
+        [first, second] => first.as_str() == "help" && matches!(second.as_str(), "--help" | "-h"),
+        _ => false,
+    }
+}
+
+/// Refuses the words, which are no line. Help about `help` is the program's own help.
+fn refuse_words<R>(rt: &R, words: &[String], error: &Error) -> ExitStatus
+where
+    R: AllocGlobal + Eprint + Print,
+{
+    if is_help_of_help(words) {
+        if let Err(help) = parse_line(rt.alloc(), &words[1..]) {
+            return refuse(rt, &help);
+        }
+    }
+    refuse(rt, error)
 }
 
 /// Reports why the line can't be had. The result is the status.
@@ -122,9 +146,10 @@ where
         parse_line(rt.alloc(), words.texts.as_slice()),
         marks.first(),
     ) {
-        (Ok(line), _) => run_readable(rt, line, marks, terminals),
+        (Ok(line), None) => run_line(rt, line, terminals),
+        (Ok(line), Some(_)) => run_readable(rt, line, marks, terminals),
         (Err(_), Some(mark)) => tell_unread(rt, WordsFault::NotText(mark.place)),
-        (Err(error), None) => refuse(rt, &error),
+        (Err(error), None) => refuse_words(rt, words.texts.as_slice(), &error),
     }
 }
 

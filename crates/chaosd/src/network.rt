@@ -5,10 +5,10 @@ ghost use Rattle.chaosd.specs.Hearing.{alone_heard};
 use crate::peer_socket::PeerSocket;
 use crate::run_ends::{tell_script, tell_unopened};
 use chaos_link::{Carriage, Peer, Peers, UdpLink};
-use chaosd_copies::ExitStatus;
-use chaosd_file::{LOOP_CLIENT, LOOP_SERVER, Notes, ScriptEnd, Why, run_loop};
+use chaosd_ask::{LOOP_CLIENT, LOOP_SERVER, Notes, ScriptEnd, run_loop};
 use chaosd_io::RunFault;
 use chaosd_line::Calling;
+use file_transfer::ExitStatus;
 use std::io;
 use std::io::Read;
 use std::net::{Ipv4Addr, Net, SocketAddr, SocketAddrV4, UdpSocket};
@@ -77,9 +77,9 @@ pub(crate) fn has_input<R: Input>(rt: &R) -> bool {
 pub(crate) fn end_script<R: Eprint>(
     rt: &R,
     end: &Result<ScriptEnd, RunFault>,
-    why: &Option<Why>,
+    notes: &Notes,
 ) -> ExitStatus {
-    tell_script(rt, end, why);
+    tell_script(rt, end, notes);
     ExitStatus::of_run(end.map(|end| end.replied == end.commands))
 }
 
@@ -90,7 +90,7 @@ pub(crate) fn run_loop_line<R: AllocGlobal + Eprint + Input + Net + Print>(
     carriage: Carriage,
 ) -> ExitStatus {
     if !has_input(rt) {
-        return end_script(rt, &Err(RunFault::ReadFault), &None);
+        return end_script(rt, &Err(RunFault::ReadFault), &Notes::new());
     }
     let (mut near, mut far) = match own_links(rt) {
         Ok(links) => links,
@@ -106,5 +106,5 @@ pub(crate) fn run_loop_line<R: AllocGlobal + Eprint + Input + Net + Print>(
         &mut notes,
         carriage,
     );
-    end_script(rt, &end, &notes.why)
+    end_script(rt, &end, &notes)
 }

@@ -3,7 +3,6 @@ ghost use Rattle.std.specs.Prelude.{◌↔◌, IsTrue};
 ghost use Rattle.chaosd.specs.Hearing.{IsHeard};
 
 use chaos_link::{DatagramSocket, LINK_ROOM, is_gone};
-use chaosd_log::SourceSocket;
 use std::io;
 use std::io::ErrorKind;
 use std::net::{SocketAddr, SocketAddrV4, UdpSocket};
@@ -47,7 +46,7 @@ impl<'a, R: Eprint, S> PeerSocket<'a, R, S> {
     }
 }
 
-impl<R: Eprint, S: SourceSocket> DatagramSocket for PeerSocket<'_, R, S> {
+impl<R: Eprint, S: DatagramSocket> DatagramSocket for PeerSocket<'_, R, S> {
     ghost asked = { λ now start. S.asked now.inner start.inner };
 
     ghost began = { λ socket. S.began socket.inner };
@@ -60,9 +59,12 @@ impl<R: Eprint, S: SourceSocket> DatagramSocket for PeerSocket<'_, R, S> {
         sent
     }
 
-    fn receive_datagram(&mut self, buffer: &mut [u8; LINK_ROOM]) -> io::Result<usize> {
-        match self.inner.receive_with_source(buffer) {
-            Ok((count, from)) if self.hears(from) => Ok(count),
+    fn receive_datagram(
+        &mut self,
+        buffer: &mut [u8; LINK_ROOM],
+    ) -> io::Result<(usize, SocketAddr)> {
+        match self.inner.receive_datagram(buffer) {
+            Ok((count, from)) if self.hears(from) => Ok((count, from)),
             Ok(_) => Err(io::Error::from(ErrorKind::WouldBlock)),
             Err(error) => {
                 self.report("receiving", &error);

@@ -1,8 +1,8 @@
 //! What a user is shown while a client waits for replies and copies a file.
 use crate::waiting::Waiting;
 use chaos_file::PrintedName;
-use chaosd_copies::{Progress, Share, Viewer};
-use chaosd_copy::Observer;
+use file_copy::Observer;
+use file_transfer::{Progress, Share, Viewer};
 
 /// A line of a terminal that shows how far a file has come. It keeps the client's wait for the
 /// server, too, which ends where nobody listens there.

@@ -1,10 +1,10 @@
 //! Reports on standard error how a run ended, or why it could not begin.
 ghost use Rattle.std.specs.Prelude.{◌≡◌, ◌⊎◌};
-ghost use Rattle.chaosd_copies.specs.Status.{status_of_fault};
+ghost use Rattle.file_transfer.specs.Status.{status_of_fault};
 
-use chaosd_copies::ExitStatus;
-use chaosd_file::{ScriptEnd, Why};
+use chaosd_ask::{Notes, ScriptEnd};
 use chaosd_io::RunFault;
+use file_transfer::ExitStatus;
 use std::fmt::Display;
 use std::io;
 
@@ -21,12 +21,10 @@ pub(crate) fn tell_end<R: Eprint, T>(rt: &R, end: &Result<T, RunFault>) {
 
 /// Reports how a run over a script ended: as [`tell_end`] does, and what is wrong with a bad line,
 /// and why a command got no reply.
-pub(crate) fn tell_script<R: Eprint>(rt: &R, end: &Result<ScriptEnd, RunFault>, why: &Option<Why>) {
-    let _ = match (end, why) {
-        (Err(fault @ RunFault::BadScript(_)), Some(Why::BadLine(bad))) => {
-            eprintln!(rt; "{fault}: {bad}")
-        }
-        (Ok(_), Some(Why::NoReply(why))) => eprintln!(rt; "chaosd: {why}"),
+pub(crate) fn tell_script<R: Eprint>(rt: &R, end: &Result<ScriptEnd, RunFault>, notes: &Notes) {
+    let _ = match (end, &notes.bad_line, &notes.no_reply) {
+        (Err(fault @ RunFault::BadScript(_)), Some(bad), _) => eprintln!(rt; "{fault}: {bad}"),
+        (Ok(_), _, Some(why)) => eprintln!(rt; "chaosd: {why}"),
         _ => {
             tell_end(rt, end);
             return;

@@ -3,13 +3,11 @@ ghost use Rattle.std.specs.Prelude.{◌≡◌};
 ghost use Rattle.chaosd.specs.Framed.{format_by, view_by};
 
 use crate::run_ends::tell_end;
-use chaosd_copies::ExitStatus;
-use chaosd_filelab::run_filelab_by;
 use chaosd_io::RunFault;
-use chaosd_lab::run_lab_by;
+use chaosd_lab::{BadLine, Stage, run_script};
 use chaosd_line::Show;
-use chaosd_script::BadLine;
 use chaosd_show::{Format, View, run_show_by};
+use file_transfer::ExitStatus;
 use std::io;
 
 /// The form of the datagrams that are reported.
@@ -60,25 +58,13 @@ fn tell_lab<R: Eprint, T>(rt: &R, end: &Result<T, RunFault>, wrong: Option<BadLi
     }
 }
 
-/// Runs `lab` from standard input to standard output.
+/// Runs the script of a laboratory from standard input to standard output.
 #[inline(never)]
-pub(crate) fn run_lab_line<R: AllocGlobal + Input + Print + Eprint>(rt: &R) -> ExitStatus {
+pub(crate) fn run_script_line<S: Stage, R: AllocGlobal + Input + Print + Eprint>(
+    rt: &R,
+) -> ExitStatus {
     let mut wrong = None;
-    let end = run_lab_by(
-        rt.alloc(),
-        &mut rt.reader(),
-        &mut io::writer(rt),
-        &mut wrong,
-    );
-    tell_lab(rt, &end, wrong);
-    ExitStatus::of_run(end.map(|refused| refused == 0))
-}
-
-/// Runs `filelab` from standard input to standard output.
-#[inline(never)]
-pub(crate) fn run_filelab_line<R: AllocGlobal + Input + Print + Eprint>(rt: &R) -> ExitStatus {
-    let mut wrong = None;
-    let end = run_filelab_by(
+    let end = run_script::<S, _, _>(
         rt.alloc(),
         &mut rt.reader(),
         &mut io::writer(rt),

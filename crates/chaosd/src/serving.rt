@@ -8,13 +8,13 @@ use crate::framed::hops_of;
 use crate::run_ends::tell_unopened;
 use chaos_chudp::ChudpLink;
 use chaos_file::{DirStore, PrintedName, ReadOnly, Store};
-use chaos_link::{Link, UdpLink};
-use chaosd_clock::ClockMoments;
-use chaosd_copies::ExitStatus;
+use chaos_link::{Link, Peers, Reports, UdpLink};
+use chaos_node::ClockMoments;
 use chaosd_io::RunFault;
 use chaosd_line::{Framing, LogLevel, Serve};
-use chaosd_log::{Journal, Ledger, Level, Matter, NotedLink, NotedSocket, ServerLog};
+use chaosd_log::{Journal, Ledger, Level, Matter};
 use file_server::{ServeOptions, run_serve_by};
+use file_transfer::ExitStatus;
 use std::fs::{File, Files};
 use std::io;
 use std::net::{Net, SocketAddr, UdpSocket};
@@ -40,25 +40,25 @@ fn level_of(is_quiet: bool, log: LogLevel) -> Level {
 }
 
 /// Makes the turns of a service, by the system's clock.
-fn make_turns<R: AllocGlobal + Clock + Eprint, L: Link, S: Store>(
+fn make_turns<R: AllocGlobal + Clock + Eprint, L: Link + Reports, S: Store>(
     rt: &R,
     options: ServeOptions,
-    journal: &Journal<'_, R>,
+    journal: &mut Journal<'_, R>,
     link: &mut L,
     store: &mut S,
 ) -> Result<(), RunFault>
     requires { 0 < options.me }
 {
     let mut moments = ClockMoments::new(rt)?;
-    let mut log = ServerLog(&*journal);
-    run_serve_by(&mut moments, rt.alloc(), link, store, options, &mut log)
+    run_serve_by(&mut moments, rt.alloc(), link, store, options, journal)?;
+    Ok(())
 }
 
 /// Serves a store, and reports how that ended.
-fn serve<R: AllocGlobal + Clock + Eprint, L: Link, S: Store>(
+fn serve<R: AllocGlobal + Clock + Eprint, L: Link + Reports, S: Store>(
     rt: &R,
     options: ServeOptions,
-    journal: &Journal<'_, R>,
+    journal: &mut Journal<'_, R>,
     link: &mut L,
     store: &mut S,
 ) -> ExitStatus
@@ -66,29 +66,20 @@ fn serve<R: AllocGlobal + Clock + Eprint, L: Link, S: Store>(
 {
     let turns = options.turns;
     let end = make_turns(rt, options, journal, link, store);
-    tell_served(journal, &end, turns);
-    ExitStatus::of_run(end.map(|()| true))
-}
-
-/// Reports that a service's turns are over, or the fault that it ended by.
-fn tell_served<R: Clock + Eprint>(
-    journal: &Journal<'_, R>,
-    end: &Result<(), RunFault>,
-    turns: u64,
-) {
-    match end {
+    match &end {
         Ok(()) => journal.end(Matter::Service, &format_args!("{turns} turns are over")),
         Err(fault) => journal.end(Matter::Fault, fault),
     }
+    ExitStatus::of_run(end.map(|()| true))
 }
 
-/// Serves a store, which is read alone where that is wanted.
-fn serve_store<R: AllocGlobal + Clock + Eprint, L: Link, S: Store + Drop>(
+/// Serves a folder, which is read alone where that is wanted.
+fn serve_store<R: AllocGlobal + Clock + Eprint + Files<File = File>, L: Link + Reports>(
     rt: &R,
     options: ServeOptions,
-    journal: &Journal<'_, R>,
+    journal: &mut Journal<'_, R>,
     link: &mut L,
-    mut store: S,
+    mut store: DirStore<&R>,
     is_read_only: bool,
 ) -> ExitStatus
     requires { 0 < options.me }
@@ -120,7 +111,16 @@ fn options_of(line: &Serve<'_>) -> ServeOptions
     }
 }
 
-/// Serves a folder over a socket, and takes note of what comes and goes by both.
+/// A link over this socket to these peers, which hears these peers alone where that is wanted.
+fn link_over(bound: UdpSocket, peers: Peers, hears_only_peers: bool) -> UdpLink {
+    if hears_only_peers {
+        UdpLink::closed(bound, peers)
+    } else {
+        UdpLink::new(bound, peers)
+    }
+}
+
+/// Serves a folder over a socket, and logs what comes and goes.
 fn serve_folder<R: AllocGlobal + Clock + Eprint + Files<File = File> + Net>(
     rt: &R,
     line: Serve<'_>,
@@ -133,35 +133,34 @@ fn serve_folder<R: AllocGlobal + Clock + Eprint + Files<File = File> + Net>(
     };
     let options = options_of(&line);
     let level = level_of(line.is_quiet, line.log);
-    let journal = Journal::new(rt, level, line.is_timed, Ledger::new(peers));
-    journal.begin(line.address, line.socket, line.folder);
-    let noted = NotedSocket::new(bound, &journal, line.hears_only_peers);
+    let mut journal = Journal::new(rt, level, line.is_timed, Ledger::new(peers));
+    journal.begin(line.address, line.socket, line.folder, &line.peers);
     match line.framing {
         Framing::Own(_) => {
-            let link = UdpLink::new(noted, line.peers);
-            serve_over(rt, options, &journal, link, folder, line.is_read_only)
+            let mut link = link_over(bound, line.peers, line.hears_only_peers);
+            serve_store(
+                rt,
+                options,
+                &mut journal,
+                &mut link,
+                folder,
+                line.is_read_only,
+            )
         }
         Framing::Chudp(bridge) => {
             let hops = hops_of(line.peers.hosts(), bridge);
-            let link = ChudpLink::new(UdpLink::new(noted, line.peers), line.address, hops);
-            serve_over(rt, options, &journal, link, folder, line.is_read_only)
+            let link = link_over(bound, line.peers, line.hears_only_peers);
+            let mut link = ChudpLink::new(link, line.address, hops);
+            serve_store(
+                rt,
+                options,
+                &mut journal,
+                &mut link,
+                folder,
+                line.is_read_only,
+            )
         }
     }
-}
-
-/// Serves a folder over a link, and takes note of what comes and goes by both.
-fn serve_over<R: AllocGlobal + Clock + Eprint + Files<File = File>, L: Link + Drop>(
-    rt: &R,
-    options: ServeOptions,
-    journal: &Journal<'_, R>,
-    link: L,
-    folder: DirStore<&R>,
-    is_read_only: bool,
-) -> ExitStatus
-    requires { 0 < options.me }
-{
-    let mut link = NotedLink::new(link, journal);
-    serve_store(rt, options, journal, &mut link, folder, is_read_only)
 }
 
 /// Runs `serve` on a folder, which is opened first, and then the socket.

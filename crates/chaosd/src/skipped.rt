@@ -1,10 +1,11 @@
 //! Files that a line names by words that are no text.
 ghost use Rattle.std.specs.Prelude.{◌≡◌, ◌==◌, IfErr, IfOk, None, OnErr, OnOk, Some, length, not, option_map};
-ghost use Rattle.chaosd.specs.Skipped.{first_elsewhere, has_work, is_marked, is_text_of, names_of, stands_once, unmarked};
+ghost use Rattle.chaosd.specs.Skipped.{files_of, first_elsewhere, first_elsewhere_of, has_work, is_marked, is_text_of, stands_once, unmarked, unmarked_of};
 ghost use Rattle.chaosd.specs.declared.words.WordsFault.TheVariants.{NotText};
 
 use crate::words::{Mark, WordsFault};
 use chaosd_line::Line;
+use file_transfer::Named;
 
 /// Whether a name is a mark's text.
 fn is_text_of(mark: &Mark, name: &str) -> bool
@@ -22,48 +23,53 @@ fn is_marked(marks: &[Mark], name: &str) -> bool
     marks.iter().any(|mark| is_text_of(mark, name))
 }
 
-/// Whether a mark is the text of one name and of no other.
-fn stands_once(names: &[&str], mark: &Mark) -> bool
-    // The result is true exactly where the mark is the text of one name and of no other.
-    ensures { result ≡ stands_once names.now mark.now }
+/// Whether a mark is the text of one file's name and of no other.
+fn stands_once<F: Named>(files: &[F], mark: &Mark) -> bool
+    // The result is true exactly where the mark is the text of one file's name and of no other.
+    ensures { result ≡ stands_once F.name files.now mark.now }
 {
-    names.iter().filter(|name| is_text_of(mark, name)).count() == 1
+    files
+        .iter()
+        .filter(|file| is_text_of(mark, file.name()))
+        .count()
+        == 1
 }
 
 /// The first word that is no text and can't be found among these files. A name that a user gave may
 /// be like a mark: then it isn't known which of the two is meant.
-fn first_elsewhere(names: &[&str], marks: &[Mark]) -> Option<usize>
+fn first_elsewhere<F: Named>(files: &[F], marks: &[Mark]) -> Option<usize>
     // The result is the place of the first mark that isn't the text of exactly one of the names.
-    ensures { result ≡ first_elsewhere names.now marks.now }
+    ensures { result ≡ first_elsewhere F.name files.now marks.now }
 {
     marks
         .iter()
-        .find(|mark| !stands_once(names, mark))
+        .find(|mark| !stands_once(files, mark))
         .map(|mark| mark.place)
 }
 
-/// Takes out of these names each that is a mark. The result is whether a name is left.
+/// Takes out of these files each whose name is a mark. The result is whether a file is left.
 ///
 /// # Errors
-/// The place of the first mark that isn't one of these names. They then stay as they were.
-fn skip<'a>(names: &mut Vec<&'a str>, marks: &[Mark]) -> Result<bool, WordsFault>
-    // If it ends well, the names that are no mark's are left, in their order.
-    ensures names { OnOk result (names.new.items ≡ unmarked marks.now names.old.items) }
-    // The result says whether any name is left.
-    ensures left { IfOk result (λ is_left. is_left ≡ not (length names.new.items == 0)) }
+/// The place of the first mark that isn't one of the names. The files then stay as they were.
+fn skip<F: Named + Drop>(files: &mut Vec<F>, marks: &[Mark]) -> Result<bool, WordsFault>
+    // If it ends well, the files whose names are no mark's are left, in their order.
+    ensures names { OnOk result (files.new.items ≡ unmarked F.name marks.now files.old.items) }
+    // The result says whether any file is left.
+    ensures left { IfOk result (λ is_left. is_left ≡ not (length files.new.items == 0)) }
     // It ends well only where each mark is the text of exactly one of the names.
-    ensures known { OnOk result (first_elsewhere names.old.items marks.now ≡ None) }
+    ensures known { OnOk result (first_elsewhere F.name files.old.items marks.now ≡ None) }
     // The fault has the place of the first mark that isn't.
     ensures fault { IfErr result
-        (λ fault. option_map NotText (first_elsewhere names.old.items marks.now) ≡ Some fault) }
-    // After a fault the names are as they were.
-    ensures unchanged { OnErr result (names.new ≡ names.old) }
+        (λ fault. option_map NotText (first_elsewhere F.name files.old.items marks.now)
+        ≡ Some fault) }
+    // After a fault the files are as they were.
+    ensures unchanged { OnErr result (files.new ≡ files.old) }
 {
-    if let Some(place) = first_elsewhere(names.as_slice(), marks) {
+    if let Some(place) = first_elsewhere(files.as_slice(), marks) {
         return Err(WordsFault::NotText(place));
     }
-    names.retain(|name| !is_marked(marks, name));
-    Ok(!names.is_empty())
+    files.retain(|file| !is_marked(marks, file.name()));
+    Ok(!files.is_empty())
 }
 
 /// Leaves out of a line the files that are named by words which are no text. The result is whether
@@ -73,21 +79,23 @@ fn skip<'a>(names: &mut Vec<&'a str>, marks: &[Mark]) -> Result<bool, WordsFault
 /// The place of the first such word that names none of the line's files. The line then stays as it
 /// was.
 pub(crate) fn skip_marked(line: &mut Line<'_>, marks: &[Mark]) -> Result<bool, WordsFault>
-    // If it ends well, the line has the names that are no mark's, in their order.
-    ensures names { OnOk result (names_of line.new ≡ unmarked marks.now (names_of line.old)) }
+    // If it ends well, the line has the files whose names are no mark's, in their order, and each
+    // file that is put with the path that it had.
+    ensures names { OnOk result (files_of line.new ≡ unmarked_of marks.now (files_of line.old)) }
     // The result says whether the line has work left.
     ensures left { IfOk result (λ is_left. is_left ≡ has_work line.new) }
     // It ends well only where each mark is the text of exactly one of the line's names.
-    ensures known { OnOk result (first_elsewhere (names_of line.old) marks.now ≡ None) }
+    ensures known { OnOk result (first_elsewhere_of (files_of line.old) marks.now ≡ None) }
     // The fault has the place of the first mark that isn't.
     ensures fault { IfErr result
-        (λ fault. option_map NotText (first_elsewhere (names_of line.old) marks.now) ≡ Some fault) }
-    // After a fault the line's names are as they were.
-    ensures unchanged { OnErr result (names_of line.new ≡ names_of line.old) }
+        (λ fault. option_map NotText (first_elsewhere_of (files_of line.old) marks.now)
+        ≡ Some fault) }
+    // After a fault the line's files are as they were.
+    ensures unchanged { OnErr result (files_of line.new ≡ files_of line.old) }
 {
     match line {
         Line::Get(get) => skip(&mut get.paths, marks),
-        Line::Put(put) => skip(&mut put.locals, marks),
+        Line::Put(put) => skip(&mut put.files, marks),
         Line::Delete(delete) => skip(&mut delete.paths, marks),
         _ => match marks.first() {
             None => Ok(true),

@@ -3,7 +3,7 @@ ghost use Rattle.std.specs.Prelude.{◌≡◌, ◌≤◌, ◌+◌, length, IfOk}
 ghost use Rattle.std.specs.Counts.{IsPrefixLen};
 
 use crate::terminals::Terminals;
-use chaosd_file::{Ready, ReplyNotes, read_command};
+use chaosd_ask::{Ready, ReplyNotes, read_command};
 use chaosd_io::Data;
 use std::fs::File;
 use std::io;

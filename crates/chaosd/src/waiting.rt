@@ -1,6 +1,8 @@
 //! A client that waits for a server, and what it reports of that.
 use chaos_link::{DatagramSocket, LINK_ROOM, Peer};
+use file_client::NoReply;
 use std::cell::Cell;
+use std::fmt::Display;
 use std::io;
 use std::io::ErrorKind;
 use std::net::{Ipv4Addr, Net, SocketAddr, SocketAddrV4, UdpSocket};
@@ -102,6 +104,26 @@ impl<'a, R: Eprint> Waiting<'a, R> {
         self.wait.get().is_over
     }
 
+    /// Reports behind this lead why the server didn't answer a client, and what to look at.
+    pub(crate) fn tell_no_reply<D: Display>(
+        &self,
+        client: Peer,
+        lead: &D,
+        why: &NoReply,
+    ) -> io::Result<()> {
+        let Peer { address, socket } = client;
+        let server = self.server.socket;
+        if self.is_over() {
+            return eprintln!(self.rt; "chaosd: {lead}no server listens at {server}");
+        }
+        if why.is_open || why.end.is_some() {
+            return eprintln!(self.rt; "chaosd: {lead}{why}");
+        }
+        eprintln!(self.rt;
+            "chaosd: {lead}{why}: does a server run at {server}, and does it have {address:o}={socket} as a PEER?"
+        )
+    }
+
     /// Nothing has come by this moment.
     pub(crate) fn look(&self, now: u64) {
         let mut wait = self.wait.get();
@@ -188,11 +210,14 @@ impl<R: Clock + Eprint, S: DatagramSocket> DatagramSocket for WaitingSocket<'_, 
         self.inner.send_datagram(bytes, to)
     }
 
-    fn receive_datagram(&mut self, buffer: &mut [u8; LINK_ROOM]) -> io::Result<usize> {
+    fn receive_datagram(
+        &mut self,
+        buffer: &mut [u8; LINK_ROOM],
+    ) -> io::Result<(usize, SocketAddr)> {
         match self.inner.receive_datagram(buffer) {
-            Ok(count) => {
+            Ok(datagram) => {
                 self.waiting.hear();
-                Ok(count)
+                Ok(datagram)
             }
             Err(error) => {
                 self.wait()?;

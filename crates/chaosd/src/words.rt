@@ -1,9 +1,9 @@
 //! The words of the command line, as the system hands them over.
 ghost use Rattle.std.specs.Prelude.{◌≡◌};
-ghost use Rattle.chaosd_copies.specs.Status.{number_of};
+ghost use Rattle.file_transfer.specs.Status.{number_of};
 ghost use Rattle.chaosd.specs.Status.{words_status};
 
-use chaosd_copies::ExitStatus;
+use file_transfer::ExitStatus;
 use std::alloc::{AllocError, Global};
 use std::env::FillError;
 use std::rt::Env;

@@ -6,3 +6,4 @@ pub mod Texts
 pub mod Lines
 pub mod Output
 pub mod Reader
+pub mod Fault

@@ -2,6 +2,7 @@
 ghost use Rattle.std.specs.Prelude.{◌≡◌, Err, IsOk, MatchResult};
 
 use crate::buffer::NotWritten;
+use chaos_node::NodeFault;
 use thiserror::Error;
 
 /// The first fault of a run. Each has a number, by which the documentation names it.
@@ -28,6 +29,22 @@ pub enum RunFault {
     /// 7: the clock could not be read.
     #[error("the clock could not be read")]
     ClockFault,
+}
+
+impl From<NodeFault> for RunFault {
+    ghost use Rattle.chaosd_io.specs.Fault.{run_fault};
+
+    // The fault is `run_fault` of what ended the turns.
+    ghost from_gives = { λ fault run. run ≡ run_fault fault };
+
+    /// What ended turns, as the fault of a run.
+    fn from(fault: NodeFault) -> RunFault {
+        match fault {
+            NodeFault::Link => RunFault::LinkFault,
+            NodeFault::Clock => RunFault::ClockFault,
+            NodeFault::NoMemory => RunFault::NoMemory,
+        }
+    }
 }
 
 /// What wasn't written, as the fault of a run.

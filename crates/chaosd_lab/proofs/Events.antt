@@ -15,11 +15,11 @@ use Rattle.chaos_lab.proofs.Happening.{no_memory}
 use Rattle.chaosd_io.specs.declared.fault.RunFault.{RunFault}
 use Rattle.chaosd_io.specs.declared.fault.RunFault.TheVariants as run
 use Rattle.chaosd_lab.specs.Answers.{answer_text, refusal_text, copies_text}
-use Rattle.chaosd_script.specs.Player.{IsLineFault}
+use Rattle.chaosd_lab.specs.Player.{IsLineFault}
 use Rattle.chaosd_lab.specs.Happen.{event_text, PlaysEvent}
 use Rattle.chaosd_lab.specs.Play.{refused_or_ended}
 
-by_answer : (answer : Result Stepped LabFault) (P : Bool → Type 0) → P (is_err answer)
+pub by_answer : {X : Type 0} (answer : Result X LabFault) (P : Bool → Type 0) → P (is_err answer)
     → IfOk (refused_or_ended answer) P
 by_answer (Ok stepped) P p = p
 by_answer (Err NoSuchCopy) P p = p
@@ -59,7 +59,7 @@ told_refused packet items (Err why) = refl
 
 -- ---- out of memory
 
-is_want : (answer : Result Stepped LabFault) → refused_or_ended answer ≡ Err run.NoMemory → answer ≡ Err NoMemory
+pub is_want : {X : Type 0} (answer : Result X LabFault) → refused_or_ended answer ≡ Err run.NoMemory → answer ≡ Err NoMemory
 is_want (Ok stepped) h = absurd (cc)
 is_want (Err NoSuchCopy) h = absurd (cc)
 is_want (Err Stale) h = absurd (cc)
@@ -67,7 +67,7 @@ is_want (Err (Refused why)) h = absurd (cc)
 is_want (Err NoMemory) h = refl
 is_want (Err ByServer) h = absurd (cc)
 
-no_copies : (copies : List Stamped) (n : ℕ) → length copies ≤ n → copies_text n (drop n copies) ≡ []
+pub no_copies : (copies : List Stamped) (n : ℕ) → length copies ≤ n → copies_text n (drop n copies) ≡ []
 unfolding copies_text
 no_copies copies n le = ap (copies_text n) (drop_all n copies le)
 
@@ -90,7 +90,7 @@ event_wants before after old mid new event answer result happens first last same
       )
     ]
 
-pub some_said : (said : Option Happening) (event : Happening) → said ≡ Some event → said ≢ None
+pub some_said : {X : Type 0} (said : Option X) (event : X) → said ≡ Some event → said ≢ None
 some_said None event h none = absurd (cc)
 some_said (Some e) event h none = cc
 

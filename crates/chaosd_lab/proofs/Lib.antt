@@ -3,3 +3,8 @@ pub mod Copies
 pub mod Events
 pub mod Settling
 pub mod Lines
+pub mod Plays
+pub mod Inputs
+pub mod Ends
+pub mod FileLines
+pub mod FileSettling

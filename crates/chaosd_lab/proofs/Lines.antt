@@ -6,8 +6,8 @@ use Rattle.std.specs.Io.KnownBytes.{Appends, Keeps}
 use Rattle.chaos_lab.specs.declared.fault.LabFault.TheVariants.{NoMemory}
 use Rattle.chaos_lab.specs.Laboratory.{LabView, Happening}
 use Rattle.chaosd_io.specs.Buffer.{written_of}
-use Rattle.chaosd_script.specs.Script.{PlaysLine}
-use Rattle.chaosd_script.proofs.Plays.{waits_more}
+use Rattle.chaosd_lab.specs.Script.{PlaysLine}
+use Rattle.chaosd_lab.proofs.Plays.{waits_more}
 use Rattle.chaosd_lab.specs.Answers.{refusal_text}
 use Rattle.chaosd_lab.specs.Event.{event_of}
 use Rattle.chaosd_lab.specs.Happen.{event_done, PlaysEvent}

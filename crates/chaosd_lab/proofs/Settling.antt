@@ -114,7 +114,7 @@ pub record Typed (start now : LabView) (rest : List Happening) (old new : Option
   pub all : settling start ≡ done ++ rest
   pub text : Appends old new (typed_text start done)
 
-nothing : (old : Option (List ℕ)) → Appends old old []
+pub nothing : (old : Option (List ℕ)) → Appends old old []
 nothing None = tt
 nothing (Some xs) = sym (append-nil xs)
 
@@ -137,12 +137,12 @@ typed_one start now next event rest others old mid ready new t is keeps goes tex
       (Appends-trans old ready new _ _ (Appends-kept old mid ready _ t.text keeps) text);
 }
 
-next_is : (done others : List Happening) (event : Happening)
+pub next_is : {X : Type 0} (done others : List X) (event : X)
     → slice_get (done ++ event ∷ others) (length done) ≡ Some event
 next_is [] others event = refl
 next_is (e ∷ done) others event = next_is done others event
 
-done_is : (done rest : List Happening) → take (length done) (done ++ rest) ≡ done
+pub done_is : {X : Type 0} (done rest : List X) → take (length done) (done ++ rest) ≡ done
 done_is [] rest = refl
 done_is (e ∷ done) rest = ap (λ es. e ∷ es) (done_is done rest)
 

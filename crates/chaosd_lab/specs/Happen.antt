@@ -2,7 +2,7 @@
 use Rattle.std.specs.Prelude.{◌≡◌, ℕ, Bool, List, ◌++◌, length, drop, is_err}
 use Rattle.chaos_lab.specs.Laboratory.{LabView, Happening, happen}
 use Rattle.chaosd_lab.specs.Answers.{answer_text, copies_text}
-use Rattle.chaosd_script.specs.Script.{Done}
+use Rattle.chaosd_lab.specs.Script.{Done}
 
 -- what an event prints: what came of it, and a line for each packet that it sent, which are the copies that joined
 unfoldable pub event_text : LabView → Happening → List ℕ

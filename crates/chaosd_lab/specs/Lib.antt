@@ -1,6 +1,5 @@
 pub mod Fields
 pub mod Numbers
-pub mod Command
 pub mod Event
 pub mod Start
 pub mod Names
@@ -10,3 +9,12 @@ pub mod Typed
 pub mod Settle
 pub mod Wrong
 pub mod Play
+pub mod Script
+pub mod Player
+pub mod FileEvent
+pub mod FileStart
+pub mod FileAnswers
+pub mod FileHappen
+pub mod FileSettle
+pub mod FileWrong
+pub mod FilePlay

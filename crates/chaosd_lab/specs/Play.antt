@@ -12,7 +12,7 @@ use Rattle.chaosd_lab.specs.Happen.{event_done}
 use Rattle.chaosd_lab.specs.Settle.{settle_word, settle_done, WantsSettling}
 use Rattle.chaosd_lab.specs.Start.{first_of}
 use Rattle.chaosd_lab.specs.Wrong.{wrong_first, wrong_of}
-use Rattle.chaosd_script.specs.Script.{Done, Script}
+use Rattle.chaosd_lab.specs.Script.{Done, Script}
 use Rattle.chaos_conn.specs.Stored.{stored_packets}
 
 -- what is printed of the laboratory's first copy

@@ -6,7 +6,7 @@ use Rattle.chaos_lab.specs.declared.fault.LabFault.TheVariants.{NoMemory}
 use Rattle.chaos_lab.specs.Laboratory.{LabView, Happening, happen, after_all}
 use Rattle.chaos_lab.specs.Settling.{settling, settling_moment, last_moment}
 use Rattle.chaosd_io.specs.Texts.{line}
-use Rattle.chaosd_script.specs.Script.{Done}
+use Rattle.chaosd_lab.specs.Script.{Done}
 use Rattle.chaosd_lab.specs.Answers.{refusal_text}
 use Rattle.chaosd_lab.specs.Happen.{event_text}
 use Rattle.chaosd_lab.specs.Typed.{event_line}

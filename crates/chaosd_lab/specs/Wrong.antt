@@ -4,10 +4,10 @@ use Rattle.std.specs.List.{starts_with}
 use Rattle.std.specs.Str.{bytes_eq}
 use Rattle.chaosd_io.specs.Escapes.{data_of}
 use Rattle.chaosd_io.specs.BadText.{why_text}
-use Rattle.chaosd_script.specs.declared.bad_line.BadLine.{BadLine}
-use Rattle.chaosd_script.specs.declared.bad_line.BadLine.TheVariants.{Empty, Comment, NoEnds, EndsAgain, Serve, NoWord, Form, Text}
-use Rattle.chaosd_script.specs.declared.bad_line.LineForm.{LineForm}
-use Rattle.chaosd_script.specs.declared.bad_line.LineForm.TheVariants as form
+use Rattle.chaosd_lab.specs.declared.bad_line.BadLine.{BadLine}
+use Rattle.chaosd_lab.specs.declared.bad_line.BadLine.TheVariants.{Empty, Comment, NoEnds, EndsAgain, Serve, NoWord, Form, Text}
+use Rattle.chaosd_lab.specs.declared.bad_line.LineForm.{LineForm}
+use Rattle.chaosd_lab.specs.declared.bad_line.LineForm.TheVariants as form
 use Rattle.chaosd_lab.specs.Fields.{cut, field_and_text}
 
 -- a first line

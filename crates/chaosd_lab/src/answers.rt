@@ -2,7 +2,7 @@
 ghost use Rattle.std.specs.Prelude.{◌≡◌, ◌++◌, drop, OnOk};
 ghost use Rattle.chaos_packet.specs.Packet.{PacketView};
 ghost use Rattle.chaos_lab.specs.History.{item};
-ghost use Rattle.chaos_lab.specs.Told.{given_by, in_full, last_of, told};
+ghost use Rattle.chaos_lab.specs.Told.{given_by, last_of, told};
 ghost use Rattle.chaosd_lab.specs.Answers.{named_line, numbered_line, item_line, read_text, spaced_text, ticked_text, stepped_text, refusal_text, answer_text, op_name, numbers_text, copy_line, copies_text, stored_line};
 
 use crate::names::{conn_fault_name, delivered_name, disposition_name, side_name, state_name};
@@ -116,26 +116,6 @@ pub fn put_stepped(out: &mut WriteBuffer, stepped: &Stepped) -> Result<(), NotWr
     }
 }
 
-/// What an event did that was taken, where the user whom it let read has read these items.
-#[inline(always)]
-fn put_done(out: &mut WriteBuffer, done: StepDone, items: &[KeptItem]) -> Result<(), NotWritten>
-    ensures { (packet : PacketView) →
-        OnOk result (out.new ≡ out.old ++ stepped_text (in_full packet items.now done)) }
-{
-    match done {
-        StepDone::Wrote(num) => put_numbered(out, "wrote", usize::from(num.0)),
-        StepDone::Read(done) => put_read_done(out, done, items),
-        StepDone::Announced(window) => put_numbered(out, "announced", usize::from(window)),
-        StepDone::Ticked(ticked) => put_ticked(out, ticked),
-        StepDone::Closed => put_line(out, "closed"),
-        StepDone::Accepted(num) => put_numbered(out, "accepted", usize::from(num.0)),
-        StepDone::Requested => put_line(out, "delivered Requested"),
-        StepDone::Delivered(disposition) => {
-            put_named(out, "delivered", disposition_name(disposition))
-        }
-    }
-}
-
 /// Writes why an event was refused.
 ///
 /// # Errors
@@ -157,15 +137,24 @@ pub fn put_refusal(out: &mut WriteBuffer, fault: LabFault) -> Result<(), NotWrit
 #[inline(always)]
 pub fn put_answer(
     out: &mut WriteBuffer,
-    answer: Result<StepDone, LabFault>,
+    answer: &Result<StepDone, LabFault>,
     items: &[KeptItem],
 ) -> Result<(), NotWritten>
     ensures { (packet : PacketView) →
-        OnOk result (out.new ≡ out.old ++ answer_text (told packet items.now answer)) }
+        OnOk result (out.new ≡ out.old ++ answer_text (told packet items.now answer.now)) }
 {
     match answer {
-        Ok(done) => put_done(out, done, items),
-        Err(fault) => put_refusal(out, fault),
+        Ok(StepDone::Wrote(num)) => put_numbered(out, "wrote", usize::from(num.0)),
+        Ok(StepDone::Read(done)) => put_read_done(out, *done, items),
+        Ok(StepDone::Announced(window)) => put_numbered(out, "announced", usize::from(*window)),
+        Ok(StepDone::Ticked(ticked)) => put_ticked(out, *ticked),
+        Ok(StepDone::Closed) => put_line(out, "closed"),
+        Ok(StepDone::Accepted(num)) => put_numbered(out, "accepted", usize::from(num.0)),
+        Ok(StepDone::Requested) => put_line(out, "delivered Requested"),
+        Ok(StepDone::Delivered(disposition)) => {
+            put_named(out, "delivered", disposition_name(*disposition))
+        }
+        Err(fault) => put_refusal(out, *fault),
     }
 }
 

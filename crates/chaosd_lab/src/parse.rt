@@ -1,24 +1,24 @@
 //! The event that a line asks for.
-ghost use Rattle.std.specs.Prelude.{◌≡◌, ℕ, List, option_map, IfErr};
-ghost use Rattle.chaosd_lab.specs.Command.{happening_said};
+ghost use Rattle.std.specs.Prelude.{◌≡◌, option_map, IfErr};
+ghost use Rattle.chaos_lab.specs.Inside.{happening_of};
 ghost use Rattle.chaosd_lab.specs.Event.{write_of, read_of, window_of, tick_of, close_of, accept_of, deliver_of, event_of};
 ghost use Rattle.std.specs.Result.{result_ok};
 ghost use Rattle.chaosd_lab.specs.Fields.{cut, field_and_text};
 ghost use Rattle.chaosd_lab.specs.Wrong.{wrong_alone, wrong_first, wrong_of, wrong_text, wrong_word, wrong_write};
 
-use crate::command::Command;
 use crate::fields::{cut, field_and_text};
 use crate::numbers::{number_of, opcode_of, side_of};
+use crate::{BadLine, LineForm};
+use chaos_lab::Event;
 use chaos_packet::PktNum;
 use chaosd_io::{Data, read_data, why_text};
-use chaosd_script::{BadLine, LineForm};
 
 /// `S OOO TEXT`, or without the text and the space before it.
 // what most lines of a script are read by is inlined where they are played: calls take some
 // instructions more for each line
 #[inline(always)]
-fn write_of(line: &[u8], rest: &[u8], body: &mut Data) -> Result<Command, BadLine>
-    ensures event { option_map (happening_said body.new.items) (result_ok result) ≡ write_of rest.now }
+fn write_of<'a>(line: &[u8], rest: &[u8], body: &'a mut Data) -> Result<Event<'a>, BadLine>
+    ensures event { option_map happening_of (result_ok result) ≡ write_of rest.now }
     ensures wrong { IfErr result (λ wrong. wrong ≡ wrong_write line.now (cut rest.now)) }
 {
     let Some((side, rest)) = cut(rest) else {
@@ -29,38 +29,53 @@ fn write_of(line: &[u8], rest: &[u8], body: &mut Data) -> Result<Command, BadLin
         return Err(BadLine::Text(why_text(line, text)));
     }
     match (side_of(side), opcode_of(op)) {
-        (Some(side), Some(op)) => Ok(Command::Write(side, op)),
+        (Some(side), Some(op)) => Ok(Event::Write(side, op, body.as_slice())),
         _ => Err(BadLine::Form(LineForm::Write)),
     }
 }
 
 /// `S`.
-fn read_of(rest: &[u8]) -> Option<Command>
-    ensures { (bytes : List ℕ) → option_map (happening_said bytes) result ≡ read_of rest.now }
+fn read_of<'a>(rest: &[u8]) -> Result<Event<'a>, BadLine>
+    ensures event { option_map happening_of (result_ok result) ≡ read_of rest.now }
+    ensures wrong { IfErr result (λ wrong. wrong ≡ BadLine.Form LineForm.Read) }
 {
-    Some(Command::Read(side_of(rest)?))
+    match side_of(rest) {
+        Some(side) => Ok(Event::Read(side)),
+        None => Err(BadLine::Form(LineForm::Read)),
+    }
 }
 
 /// `S N`, the window that a side announces.
-fn window_of(rest: &[u8]) -> Option<Command>
-    ensures { (bytes : List ℕ) → option_map (happening_said bytes) result ≡ window_of rest.now }
+fn window_of<'a>(rest: &[u8]) -> Result<Event<'a>, BadLine>
+    ensures event { option_map happening_of (result_ok result) ≡ window_of rest.now }
+    ensures wrong { IfErr result (λ wrong. wrong ≡ BadLine.Form LineForm.Window) }
 {
-    let (side, window) = cut(rest)?;
-    let window = number_of(u64::from(u16::MAX), window);
-    Some(Command::Window(side_of(side)?, window? as u16))
+    let Some((side, window)) = cut(rest) else {
+        return Err(BadLine::Form(LineForm::Window));
+    };
+    match (side_of(side), number_of(u64::from(u16::MAX), window)) {
+        (Some(side), Some(window)) => Ok(Event::Announce(side, window as u16)),
+        _ => Err(BadLine::Form(LineForm::Window)),
+    }
 }
 
 /// `S N`.
-fn tick_of(rest: &[u8]) -> Option<Command>
-    ensures { (bytes : List ℕ) → option_map (happening_said bytes) result ≡ tick_of rest.now }
+fn tick_of<'a>(rest: &[u8]) -> Result<Event<'a>, BadLine>
+    ensures event { option_map happening_of (result_ok result) ≡ tick_of rest.now }
+    ensures wrong { IfErr result (λ wrong. wrong ≡ BadLine.Form LineForm.Tick) }
 {
-    let (side, now) = cut(rest)?;
-    Some(Command::Tick(side_of(side)?, number_of(u64::MAX, now)?))
+    let Some((side, now)) = cut(rest) else {
+        return Err(BadLine::Form(LineForm::Tick));
+    };
+    match (side_of(side), number_of(u64::MAX, now)) {
+        (Some(side), Some(now)) => Ok(Event::Tick(side, now)),
+        _ => Err(BadLine::Form(LineForm::Tick)),
+    }
 }
 
 /// `S TEXT`, or without the text and the space before it.
-fn close_of(line: &[u8], rest: &[u8], body: &mut Data) -> Result<Command, BadLine>
-    ensures event { option_map (happening_said body.new.items) (result_ok result) ≡ close_of rest.now }
+fn close_of<'a>(line: &[u8], rest: &[u8], body: &'a mut Data) -> Result<Event<'a>, BadLine>
+    ensures event { option_map happening_of (result_ok result) ≡ close_of rest.now }
     ensures wrong { IfErr result
         (λ wrong. wrong ≡ wrong_text LineForm.Close line.now (field_and_text rest.now).1) }
 {
@@ -69,26 +84,32 @@ fn close_of(line: &[u8], rest: &[u8], body: &mut Data) -> Result<Command, BadLin
         return Err(BadLine::Text(why_text(line, text)));
     }
     match side_of(side) {
-        Some(side) => Ok(Command::Close(side)),
+        Some(side) => Ok(Event::Close(side, body.as_slice())),
         None => Err(BadLine::Form(LineForm::Close)),
     }
 }
 
 /// `N`, the number of B's first item.
-fn accept_of(rest: &[u8]) -> Option<Command>
-    ensures { (bytes : List ℕ) → option_map (happening_said bytes) result ≡ accept_of rest.now }
+fn accept_of<'a>(rest: &[u8]) -> Result<Event<'a>, BadLine>
+    ensures event { option_map happening_of (result_ok result) ≡ accept_of rest.now }
+    ensures wrong { IfErr result (λ wrong. wrong ≡ BadLine.Form LineForm.Accept) }
 {
-    let start = number_of(u64::from(u16::MAX), rest)?;
-    Some(Command::Accept(PktNum(start as u16)))
+    match number_of(u64::from(u16::MAX), rest) {
+        Some(start) => Ok(Event::Accept(PktNum(start as u16))),
+        None => Err(BadLine::Form(LineForm::Accept)),
+    }
 }
 
 /// `K`, the number of a copy.
 #[inline(always)]
-fn deliver_of(rest: &[u8]) -> Option<Command>
-    ensures { (bytes : List ℕ) → option_map (happening_said bytes) result ≡ deliver_of rest.now }
+fn deliver_of<'a>(rest: &[u8]) -> Result<Event<'a>, BadLine>
+    ensures event { option_map happening_of (result_ok result) ≡ deliver_of rest.now }
+    ensures wrong { IfErr result (λ wrong. wrong ≡ BadLine.Form LineForm.Deliver) }
 {
-    let copy = number_of(u64::MAX, rest)?;
-    Some(Command::Deliver(copy as usize))
+    match number_of(u64::MAX, rest) {
+        Some(copy) => Ok(Event::Deliver(copy as usize)),
+        None => Err(BadLine::Form(LineForm::Deliver)),
+    }
 }
 
 /// What is wrong with a line that begins with this word.
@@ -146,28 +167,15 @@ pub fn wrong_first(line: &[u8]) -> BadLine
     }
 }
 
-/// What a line asks for, or the form that its word needs.
-#[inline(always)]
-fn formed(form: LineForm, command: Option<Command>) -> Result<Command, BadLine>
-    ensures event { result_ok result ≡ command }
-    ensures wrong { IfErr result (λ wrong. wrong ≡ BadLine.Form form) }
-{
-    match command {
-        Some(command) => Ok(command),
-        None => Err(BadLine::Form(form)),
-    }
-}
-
-/// The event that a line asks for, with the bytes of its text in `body`. A line without a text
-/// leaves `body` as it is.
+/// The event that a line asks for. The bytes of its text lie in `body`.
 ///
 /// # Errors
 /// What is wrong with a line that isn't of the form of an event.
 #[tactic(auto, unfolding(crate::specs::Event::event_of, crate::specs::Wrong::wrong_of))]
 #[inline(always)]
-pub fn event_of(line: &[u8], body: &mut Data) -> Result<Command, BadLine>
-    // The result is what the line asks for, and the bytes of its text are in the caller's place.
-    ensures event { option_map (happening_said body.new.items) (result_ok result) ≡ event_of line.now }
+pub fn event_of<'a>(line: &[u8], body: &'a mut Data) -> Result<Event<'a>, BadLine>
+    // The result is the event that the line asks for.
+    ensures event { option_map happening_of (result_ok result) ≡ event_of line.now }
     // What is wrong with a line: it is empty or a comment, it begins with no word of the language,
     // its text stands for no bytes, or it isn't of the form of its word.
     ensures wrong { IfErr result (λ wrong. wrong ≡ wrong_of line.now) }
@@ -178,17 +186,17 @@ pub fn event_of(line: &[u8], body: &mut Data) -> Result<Command, BadLine>
     if word == b"write".as_slice() {
         write_of(line, rest, body)
     } else if word == b"read".as_slice() {
-        formed(LineForm::Read, read_of(rest))
+        read_of(rest)
     } else if word == b"window".as_slice() {
-        formed(LineForm::Window, window_of(rest))
+        window_of(rest)
     } else if word == b"tick".as_slice() {
-        formed(LineForm::Tick, tick_of(rest))
+        tick_of(rest)
     } else if word == b"close".as_slice() {
         close_of(line, rest, body)
     } else if word == b"accept".as_slice() {
-        formed(LineForm::Accept, accept_of(rest))
+        accept_of(rest)
     } else if word == b"deliver".as_slice() {
-        formed(LineForm::Deliver, deliver_of(rest))
+        deliver_of(rest)
     } else {
         Err(wrong_word(word))
     }

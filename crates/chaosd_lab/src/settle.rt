@@ -9,16 +9,25 @@ ghost use Rattle.chaos_lab.specs.Laboratory.{after_all, happen};
 ghost use Rattle.chaos_lab.specs.Settling.{settling};
 ghost use Rattle.chaosd_lab.specs.Answers.{refusal_text};
 ghost use Rattle.chaosd_lab.specs.Happen.{event_text};
-ghost use Rattle.chaosd_lab.specs.Settle.{settle_done, typed_text, WantsSettling, WantsEvents};
+ghost use Rattle.chaosd_lab.specs.Settle.{settle_done, settle_word, typed_text, WantsSettling, WantsEvents};
+ghost use Rattle.std.specs.Str.{bytes_eq};
 ghost use Rattle.chaosd_lab.specs.Typed.{event_line};
 
-use crate::line::play_event;
+use crate::lab_stage::play_event;
+use crate::room::make_room;
 use crate::typed::put_event;
 use chaos_lab::{Event, Lab, Settling};
 use chaosd_io::{RunFault, WriteBuffer, put_line, written};
-use chaosd_script::make_room;
 use std::alloc::Global;
 use std::io::Write;
+
+/// Whether a line is `settle`. Most lines differ from it in length, so no comparison is called.
+#[inline(always)]
+pub fn is_settle(line: &[u8]) -> bool
+    ensures { result ≡ bytes_eq line.now settle_word }
+{
+    line.len() == 6 && line == b"settle".as_slice()
+}
 
 /// Lets both ends settle, writes the events as if they were typed, and says whether that was
 /// refused.

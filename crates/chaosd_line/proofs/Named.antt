@@ -46,12 +46,12 @@ last_kept text i start d lt le e ne =
     (last_more text i d lt
     ∙ ap (λ b. if b then [] else last_of (take i text) ++ get_or text i d ∷ []) (apart (get_or text i d) ne))
 
-any_of : {T : Type 0} (p : Text → Bool) (text : T → Text) (ts : List T)
+any_of : {A T : Type 0} (p : A → Bool) (text : T → A) (ts : List T)
     → list_any p (map text ts) ≡ list_any (λ t. p (text t)) ts
 any_of p text [] = refl
 any_of p text (t ∷ ts) = ap (λ b. p (text t) || b) (any_of p text ts)
 
-apart_next : {T : Type 0} (same : Text → Text → Bool) (text : T → Text) (ts : List T) (i : ℕ) (d : T) → i < length ts
+apart_next : {A T : Type 0} (same : A → A → Bool) (text : T → A) (ts : List T) (i : ℕ) (d : T) → i < length ts
     → are_apart same (map text (drop i ts))
     ≡ (not (list_any (λ u. same (text u) (text (get_or ts i d))) (drop (suc i) ts))
     && are_apart same (map text (drop (suc i) ts)))
@@ -61,14 +61,14 @@ apart_next same text (t ∷ ts) zero d lt =
 apart_next same text (t ∷ ts) (suc i) d lt = apart_next same text ts i d (omega arith)
 
 -- one text more, which is the same as a later one or not
-apart_step : {T : Type 0} (same : Text → Text → Bool) (text : T → Text) (ts : List T) (i : ℕ) (d : T) → i < length ts
+apart_step : {A T : Type 0} (same : A → A → Bool) (text : T → A) (ts : List T) (i : ℕ) (d : T) → i < length ts
     → are_apart same (map text (drop i ts))
     ≡ (not (list_any (λ u. same (text u) (text (get_or ts i d))) (drop (i + 1) ts))
     && are_apart same (map text (drop (i + 1) ts)))
 apart_step same text ts i d lt = rw add-one (apart_next same text ts i d lt)
 
 -- the same of what was found of it among the rest
-pub apart_at : {T : Type 0} (same : Text → Text → Bool) (text : T → Text) (ts : List T) (i : ℕ) (d : T)
+pub apart_at : {A T : Type 0} (same : A → A → Bool) (text : T → A) (ts : List T) (i : ℕ) (d : T)
     (test : T → Bool) (found : Bool)
     → i < length ts → test ≡ (λ u. same (text u) (text (get_or ts i d)))
     → found ≡ list_any test (take (length ts - (i + 1)) (drop (i + 1) ts))
@@ -78,6 +78,14 @@ apart_at same text ts i d test found lt is e =
     let again : list_any (λ u. same (text u) (text (get_or ts i d))) (drop (i + 1) ts) ≡ found =
     ap (λ f. list_any f (drop (i + 1) ts)) (sym is) ∙ sym all in
     apart_step same text ts i d lt ∙ ap (λ b. not b && are_apart same (map text (drop (i + 1) ts))) again
+
+-- things are apart as what is made of them is
+pub apart_of : {A T : Type 0} (same : A → A → Bool) (text : T → A) (ts : List T)
+    → are_apart same (map text ts) ≡ are_apart (λ u t. same (text u) (text t)) ts
+apart_of same text [] = refl
+apart_of same text (t ∷ ts) =
+    ap (λ b. not b && are_apart same (map text ts)) (any_of (λ u. same u (text t)) text ts)
+    ∙ ap (λ b. not (list_any (λ u. same (text u) (text t)) ts) && b) (apart_of same text ts)
 
 -- the first text whose name a later one has, from this one on
 pub repeated_at : {T : Type 0} (text : T → Text) (ts : List T) (i : ℕ) (d : T) (test : T → Bool) (found : Bool)

@@ -1,9 +1,10 @@
 -- The files of a line, of which some are the server's and some are local.
-use Rattle.std.specs.Prelude.{◌==◌, ◌-◌, ◌&&◌, ◌||◌, ◌++◌, ◌∷◌, ℕ, Bool, true, false, not, List, [], Option, None, Some, slice_get, if◌then◌else◌, codes, length, map, unwrap_or}
+use Rattle.std.specs.Prelude.{◌==◌, ◌-◌, ◌&&◌, ◌||◌, ◌++◌, ◌∷◌, ℕ, Bool, true, false, not, List, [], Option, None, Some, slice_get, if◌then◌else◌, codes, length, map, option_map, unwrap_or}
 use Rattle.std.specs.List.{find, list_all, list_any}
 use Rattle.std.specs.Str.{bytes_eq}
 use Rattle.clap.specs.Words.{Text}
 use Rattle.chaos_file.specs.Names.{is_path, is_path_byte}
+use Rattle.file_transfer.specs.declared.naming.PutFile.{PutFile}
 
 -- what stands behind the last slash (47)
 abbrev pub last_from : Text → Text → Text
@@ -40,8 +41,8 @@ abbrev pub is_same_path : Option Text → Option Text → Bool
 is_same_path (Some p) (Some q) = bytes_eq p q
 is_same_path _ _ = false
 
--- no text is the same as a later one
-abbrev pub are_apart : (Text → Text → Bool) → List Text → Bool
+-- nothing is the same as a later one
+abbrev pub are_apart : {A : Type 0} → (A → A → Bool) → List A → Bool
 are_apart same [] = true
 are_apart same (t ∷ texts) = not (list_any (λ u. same u t) texts) && are_apart same texts
 
@@ -89,7 +90,27 @@ abbrev pub fits_output : Option Text → List Text → Bool
 fits_output None texts = true
 fits_output (Some name) texts = is_folder name || length texts == 1
 
--- local files go under paths of their own, or one of them under the path that is given
+-- local files may be put: they go under paths of their own, or one of them under the path that is given
 abbrev pub are_named : Bool → Option Text → List Text → Bool
 are_named is_renaming None texts = are_locals is_renaming texts
 are_named is_renaming (Some path) texts = is_path path && length texts == 1
+
+-- a local file, and the path that it is put under, if there is one
+abbrev pub file_view : PutFile → Text × Option Text
+file_view file = (file.local.now, option_map (λ p. p.items) file.path)
+
+abbrev pub has_same_path : Text × Option Text → Text × Option Text → Bool
+has_same_path f g = is_same_path f.1 g.1
+
+-- local files, each with the path that it goes under
+abbrev pub own_files : Bool → List Text → List (Text × Option Text)
+own_files is_renaming texts = map (λ t. (t, path_for is_renaming t)) texts
+
+-- the same, or each with the path that is given
+abbrev pub files_under : Bool → Option Text → List Text → List (Text × Option Text)
+files_under is_renaming None texts = own_files is_renaming texts
+files_under is_renaming (Some path) texts = map (λ t. (t, path_for false path)) texts
+
+-- the files of `put`, where they may be put
+abbrev pub put_files : Bool → Option Text → List Text → Option (List (Text × Option Text))
+put_files is_renaming path texts = if are_named is_renaming path texts then Some (files_under is_renaming path texts) else None

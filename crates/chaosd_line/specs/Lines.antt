@@ -6,7 +6,7 @@ use Rattle.std.specs.Str.{bytes_eq}
 use Rattle.clap.specs.Words.{Row, Text, first_of, subcommand_of}
 use Rattle.chaos_link.specs.declared.carriage.Carriage.{Carriage}
 use Rattle.chaosd_line.specs.CommandLine.{chaosd}
-use Rattle.chaosd_line.specs.Files.{are_named, are_paths, fits_output}
+use Rattle.chaosd_line.specs.Files.{are_paths, file_view, fits_output, put_files}
 use Rattle.chaosd_line.specs.Framings.{framing_at}
 use Rattle.chaosd_line.specs.Values.{address_of, flag_of, given, given_if, kept_if, log_of, peer_of, peers_of, retransmit_of, seconds_of, socket_of, turns_of, version_of, window_of, word_of, words_of}
 use Rattle.chaosd_line.specs.declared.line.Ask.{Ask}
@@ -115,13 +115,14 @@ get = only_if (within (λ g. g.copying) copying
     & field (λ g. map (λ t. t.now) g.paths.items) (λ rows. Some (words_of (codes "PATH") rows)))
     (λ v. are_paths v.1.1 && fits_output v.1.0 v.1.1)
 
--- `put` has files that go under paths of their own, or one file with a path
+-- `put` has files with their paths: paths of their own, or for one file the path that is given
+abbrev pub files_at : List Row → Option (List (Text × Option Text))
+files_at rows = option_and_then
+    (λ is_renaming. put_files is_renaming (first_of (codes "as") rows) (words_of (codes "LOCAL") rows))
+    (given flag_of (codes "rename") rows)
+
 unfoldable pub put : Reading Put
-put = only_if (within (λ p. p.copying) copying
-    & field (λ p. p.is_renaming) (given flag_of (codes "rename"))
-    & field (λ p. option_map (λ t. t.now) p.path) (λ rows. Some (first_of (codes "as") rows))
-    & field (λ p. map (λ t. t.now) p.locals.items) (λ rows. Some (words_of (codes "LOCAL") rows)))
-    (λ v. are_named v.1.0 v.1.1.0 v.1.1.1)
+put = within (λ p. p.copying) copying & field (λ p. map file_view p.files.items) files_at
 
 unfoldable pub delete : Reading Delete
 delete = only_if (within (λ d. d.calling) calling

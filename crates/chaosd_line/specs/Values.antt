@@ -11,6 +11,7 @@ use Rattle.std.specs.declared.net.socket_addr.SocketAddrV4.{SocketAddrV4}
 use Rattle.clap.specs.Words.{Row, Text, all_of, first_of}
 use Rattle.chaos_file.specs.Names.{is_name, is_path}
 use Rattle.chaos_file.specs.declared.limits.TheConstants.{MAX_NAME}
+use Rattle.chaos_host.specs.declared.limits.TheConstants.{MAX_CONTACT}
 use Rattle.chaos_link.specs.declared.limits.TheConstants.{MAX_PEERS}
 use Rattle.chaos_link.specs.Peers.{PeersView}
 use Rattle.chaos_link.specs.declared.carriage.Carriage.{Carriage}
@@ -93,7 +94,7 @@ flag_of text = if bytes_eq text (codes "true") then Some true
 
 -- 1 to 64 printable characters of ASCII, none of them a space: the bytes 21 to 7E in hexadecimal
 abbrev pub is_contact : Text → Bool
-is_contact text = nat_le 1 (length text) && nat_le (length text) 64 && list_all is_ascii_graphic text
+is_contact text = nat_le 1 (length text) && nat_le (length text) MAX_CONTACT && list_all is_ascii_graphic text
 
 -- any text, a contact name that is asked for, a user's name, and a path of FILE
 abbrev pub takes : Word → Text → Bool

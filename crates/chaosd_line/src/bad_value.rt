@@ -6,7 +6,7 @@ use std::alloc::{AllocError, Global};
 
 /// The form of a peer.
 pub(crate) const ENTRY_FORM: &str =
-    "a Chaosnet address or `*`, then `=` and a UDP address, such as 402=127.0.0.1:9002";
+    "a Chaosnet address or `*`, then `=` and a UDP address with a port from 1 to 65535, such as 402=127.0.0.1:9002";
 
 /// The form of the peers where two are a bridge.
 pub(crate) const BRIDGE_ONCE_FORM: &str = "at most one bridge";

@@ -134,9 +134,8 @@ pub(crate) const QUIET: &str = "Report only files that could not be copied";
 
 /// Help of `--verbose`.
 pub(crate) const VERBOSE: &str = "\
-Print the server's address, and a line with the
-SHA-256 of each file, even if standard error is not a
-terminal";
+Print a line with the size and the SHA-256 of each
+file, even if standard error is not a terminal";
 
 /// Help of `get --output`.
 pub(crate) const OUTPUT: &str = "\

@@ -33,4 +33,3 @@ pub use fault::LineFault;
 pub use framing::Framing;
 pub use line::{Ask, Calling, Copying, Delete, Get, Line, LogLevel, Put, Rename, Serve, Show};
 pub use parse::{parse_line, read_line};
-pub use paths::path_for;

@@ -5,6 +5,7 @@ ghost use Rattle.chaosd_line.specs.Values.{is_contact};
 
 use crate::framing::Framing;
 use chaos_link::{Carriage, Peer, Peers};
+use file_transfer::PutFile;
 use std::net::SocketAddrV4;
 
 /// What a command line asks for: a subcommand, with its values. Texts are lent from the words.
@@ -171,14 +172,10 @@ pub struct Get<'a> {
 pub struct Put<'a> {
     /// What it has in common with `get`.
     pub copying: Copying<'a>,
-    /// Whether a file whose last name FILE doesn't take goes under what that is renamed to.
-    pub is_renaming: bool,
-    /// The server's file in place of that of [`path_for`](crate::path_for), where there is one
-    /// file.
-    pub path: Option<&'a str>,
-    /// The local files. Where `path` is none, none of them is standard input, which is `-`, and no
-    /// two go under one path; of some there may be no path.
-    pub locals: Vec<&'a str>,
+    /// The local files, each with its path: the path that `--as` gives, or a path of its own. No two
+    /// files have one path, and some files may have none. Without `--as` no file is standard input,
+    /// which is `-`.
+    pub files: Vec<PutFile<'a>>,
 }
 
 /// Which files to delete.

@@ -1,6 +1,6 @@
 //! The values that clap gives for a subcommand, and the line that they ask for.
-ghost use Rattle.clap.specs.Words.{found_of, rows_of, subcommand_rows_of};
-ghost use Rattle.chaosd_line.specs.Lines.{Answers, Reads, ask, line_named, line_of, line_view, serve, show};
+ghost use Rattle.clap.specs.Words.{found_of, rows_of};
+ghost use Rattle.chaosd_line.specs.Lines.{Answers, Reads, ask, line_named, line_view, serve, show};
 
 use crate::bad_value::BadValue;
 use crate::calls::{delete_of, own_host, rename_of, timeout_of};
@@ -81,13 +81,13 @@ fn show_of<'a>(matches: &ArgMatches<'a>) -> Result<Show, BadValue<'a>>
 }
 
 /// That there is no subcommand.
-fn no_subcommand<'a>() -> LineProblem<'a> {
+pub(crate) fn no_subcommand<'a>() -> LineProblem<'a> {
     LineProblem::Bad(BadValue::new("", "COMMAND", "a subcommand"))
 }
 
 /// What the values of the subcommand of this name ask for. That there is one of this name is clap's
 /// care.
-fn line_named<'a>(
+pub(crate) fn line_named<'a>(
     alloc: Global,
     name: &str,
     values: &ArgMatches<'a>,
@@ -106,18 +106,5 @@ fn line_named<'a>(
         "delete" => Ok(Line::Delete(delete_of(alloc, values)?)),
         "rename" => Ok(Line::Rename(rename_of(values)?)),
         _ => Err(no_subcommand()),
-    }
-}
-
-/// What a subcommand and its values ask for. That there is one is clap's care.
-pub(crate) fn line_of<'a>(
-    alloc: Global,
-    matches: &ArgMatches<'a>,
-) -> Result<Line<'a>, LineProblem<'a>>
-    ensures { Answers line_view (line_of (subcommand_rows_of matches.now)) result }
-{
-    match matches.subcommand() {
-        Some((name, values)) => line_named(alloc, name, values),
-        None => Err(no_subcommand()),
     }
 }

@@ -1,7 +1,6 @@
 //! The reading of a command line.
 ghost use Rattle.std.specs.Prelude.{◌≡◌, ◌⊎◌, map, IfOk, Some};
 ghost use Rattle.clap.specs.Values.{kind_of};
-ghost use Rattle.clap.specs.Words.{FailsBy, app_of, fault_of, subcommand_of, subcommand_rows_of};
 ghost use Rattle.clap.specs.declared.error.kind.ErrorKind.TheVariants.{OutOfMemory, ValueValidation};
 ghost use Rattle.chaosd_line.specs.CommandLine.{chaosd};
 ghost use Rattle.chaosd_line.specs.Fault.{FailsFor, IsReported, RefusesFor};
@@ -11,34 +10,11 @@ use crate::command::{command, command_of};
 use crate::fault::LineFault;
 use crate::line::Line;
 use crate::line_problem::LineProblem;
-use crate::lines::line_of;
+use crate::lines::{line_named, no_subcommand};
+use clap::Error;
 use clap::error::ErrorKind;
-use clap::{ArgMatches, Command, Error};
 use std::alloc::{AllocError, Global};
 use std::convert::AsStr;
-
-/// What clap makes of the words.
-fn matches_of<'a, S: AsStr>(
-    command: &mut Command<'a>,
-    words: &'a [S],
-) -> Result<ArgMatches<'a>, Error>
-    requires { app_of command.old ≡ chaosd }
-    ensures subcommand { IfOk result (λ matches.
-        subcommand_rows_of matches ≡ subcommand_of chaosd (map S.text words.now)) }
-    ensures kinds { FailsBy (fault_of chaosd (map S.text words.now)) result }
-{
-    command.try_get_matches_from_mut(words)
-}
-
-/// What clap makes of the words by the program's command.
-fn found<'a, S: AsStr>(alloc: Global, words: &'a [S]) -> Result<ArgMatches<'a>, Error>
-    ensures subcommand { IfOk result (λ matches.
-        subcommand_rows_of matches ≡ subcommand_of chaosd (map S.text words.now)) }
-    ensures kinds { FailsBy (fault_of chaosd (map S.text words.now)) result }
-{
-    let mut command = command(alloc)?;
-    matches_of(&mut command, words)
-}
 
 /// The error with this text about a bad word, and with the usage of its subcommand.
 fn error_of(
@@ -105,10 +81,14 @@ pub fn parse_line<'a, S: AsStr>(alloc: Global, words: &'a [S]) -> Result<Line<'a
     // is not of its form or doesn't go with the others.
     ensures kinds { FailsFor (map S.text words.now) result }
 {
-    let matches = found(alloc, words)?;
-    match line_of(alloc, &matches) {
-        Ok(asked) => Ok(asked),
-        Err(problem) => Err(report_of(alloc, problem, matches.subcommand_name())),
+    let mut command = command(alloc)?;
+    let matches = command.try_get_matches_from_mut(words)?;
+    match matches.subcommand() {
+        Some((name, values)) => match line_named(alloc, name, values) {
+            Ok(line) => Ok(line),
+            Err(problem) => Err(report_of(alloc, problem, Some(name))),
+        },
+        None => Err(report_of(alloc, no_subcommand(), None)),
     }
 }
 

@@ -1,16 +1,16 @@
 //! The paths that local files go under.
-ghost use Rattle.std.specs.Prelude.{◌≡◌, ◌≤◌, ◌+◌, ◌++◌, length, map, option_map};
+ghost use Rattle.std.specs.Prelude.{◌≡◌, ◌≤◌, ◌+◌, ◌++◌, None, Some, false, length, map, option_map};
 ghost use Rattle.std.specs.List.{list_all, list_any};
 ghost use Rattle.chaos_file.specs.declared.limits.TheConstants.{MAX_PATH};
-ghost use Rattle.chaosd_line.specs.Files.{are_apart, are_locals, first_byte, goes_same, is_file, is_same_path, name_for, path_byte, path_for, renamed};
+ghost use Rattle.chaosd_line.specs.Files.{are_apart, file_view, first_byte, has_same_path, is_file, is_same_path, name_for, path_byte, path_for, put_files, renamed};
+ghost use Rattle.chaosd_line.specs.Lines.{Answers};
 
-use crate::bad_value::{BadValue, Clash, LOCALS_FORM};
+use crate::bad_value::{BadValue, Clash, LOCALS_FORM, ONE_LOCAL, PATH_FORM};
 use crate::files::last_name;
 use crate::line_problem::LineProblem;
 use chaos_file::{FilePath, MAX_PATH, is_path, is_path_byte};
-
-/// The word that is standard input.
-const STREAM: &str = "-";
+use file_transfer::{PutFile, STREAM};
+use std::alloc::Global;
 
 /// A byte of a path, in place of this one.
 fn path_byte(b: u8) -> u8
@@ -75,7 +75,7 @@ fn name_for(name: &[u8], is_renaming: bool) -> FilePath
 ///
 /// A name of more than 64 bytes has no path, and neither has an empty name. The cost is a walk over
 /// the text.
-pub fn path_for(local: &str, is_renaming: bool) -> Option<FilePath>
+pub(crate) fn path_for(local: &str, is_renaming: bool) -> Option<FilePath>
     // A local file goes under what stands behind the last slash of its name, if that is a path of
     // FILE and not `-`, and otherwise under no path. If names are renamed, an underscore first
     // takes the place of each byte that no path has, and of a leading dot.
@@ -105,24 +105,21 @@ fn is_same_path(one: &Option<FilePath>, other: &Option<FilePath>) -> bool
 }
 
 /// Whether one of these files goes under the path.
-fn is_taken(path: &Option<FilePath>, texts: &[&str], is_renaming: bool) -> bool
+fn is_taken(path: &Option<FilePath>, files: &[PutFile<'_>]) -> bool
     ensures { result ≡ list_any
-        (λ u. is_same_path (path_for is_renaming u.now) (option_map (λ p. p.items) path.now))
-        texts.now }
+        (λ f. is_same_path (option_map (λ p. p.items) f.path) (option_map (λ p. p.items) path.now))
+        files.now }
 {
-    texts
-        .iter()
-        .any(|text| is_same_path(&path_for(text, is_renaming), path))
+    files.iter().any(|file| is_same_path(&file.path, path))
 }
 
 /// Whether no two files go under one path. The cost is that of a walk over the later files for
 /// each.
-fn are_apart(texts: &[&str], is_renaming: bool) -> bool
-    ensures { result ≡ are_apart (goes_same is_renaming) (map (λ t. t.now) texts.now) }
+fn are_apart(files: &[PutFile<'_>]) -> bool
+    ensures { result ≡ are_apart has_same_path (map file_view files.now) }
 {
-    for i in 0..texts.len() {
-        let path = path_for(texts[i], is_renaming);
-        if is_taken(&path, &texts[i + 1..], is_renaming) {
+    for i in 0..files.len() {
+        if is_taken(&files[i].path, &files[i + 1..]) {
             return false;
         }
     }
@@ -138,22 +135,14 @@ fn all_files(texts: &[&str]) -> bool
         .all(|text| text.as_bytes() != STREAM.as_bytes())
 }
 
-/// Whether none of the local files is standard input, and no two go under one path.
-pub(crate) fn are_locals(texts: &[&str], is_renaming: bool) -> bool
-    ensures { result ≡ are_locals is_renaming (map (λ t. t.now) texts.now) }
-{
-    all_files(texts) && are_apart(texts, is_renaming)
-}
-
 /// The first file that goes under the path of one before it, beside that one.
-fn clash_of<'a>(texts: &[&'a str], is_renaming: bool) -> Option<Clash<'a>> {
-    for j in 0..texts.len() {
-        let path = path_for(texts[j], is_renaming);
+fn clash_of<'a>(files: &[PutFile<'a>]) -> Option<Clash<'a>> {
+    for j in 0..files.len() {
         for i in 0..j {
-            if is_same_path(&path_for(texts[i], is_renaming), &path) {
+            if is_same_path(&files[i].path, &files[j].path) {
                 return Some(Clash {
-                    first: texts[i],
-                    second: texts[j],
+                    first: files[i].local,
+                    second: files[j].local,
                 });
             }
         }
@@ -162,11 +151,64 @@ fn clash_of<'a>(texts: &[&'a str], is_renaming: bool) -> Option<Clash<'a>> {
 }
 
 /// What is wrong with local files of which one is standard input, or two go under one path.
-pub(crate) fn bad_locals<'a>(texts: &[&'a str], is_renaming: bool) -> LineProblem<'a> {
+fn bad_files<'a>(texts: &[&'a str], files: &[PutFile<'a>]) -> LineProblem<'a> {
     if all_files(texts) {
-        if let Some(files) = clash_of(texts, is_renaming) {
+        if let Some(files) = clash_of(files) {
             return LineProblem::Clash(files);
         }
     }
     LineProblem::Bad(BadValue::new(STREAM, "LOCAL", LOCALS_FORM))
+}
+
+/// The local files, each with the path of its own name. None of them is standard input, and no two
+/// go under one path.
+pub(crate) fn own_files<'a>(
+    alloc: Global,
+    texts: &[&'a str],
+    is_renaming: bool,
+) -> Result<Vec<PutFile<'a>>, LineProblem<'a>>
+    ensures { Answers (λ v. map file_view v.items)
+        (put_files is_renaming None (map (λ t. t.now) texts.now)) result }
+{
+    let mut files = Vec::new(alloc);
+    for local in texts {
+        let file = PutFile {
+            local: *local,
+            path: path_for(local, is_renaming),
+        };
+        let Ok(()) = files.push(file) else {
+            return Err(LineProblem::NoMemory);
+        };
+    }
+    if all_files(texts) && are_apart(files.as_slice()) {
+        Ok(files)
+    } else {
+        Err(bad_files(texts, files.as_slice()))
+    }
+}
+
+/// The one local file, with the path that is given.
+pub(crate) fn file_under<'a>(
+    alloc: Global,
+    texts: &[&'a str],
+    path: &'a str,
+) -> Result<Vec<PutFile<'a>>, LineProblem<'a>>
+    ensures { Answers (λ v. map file_view v.items)
+        (put_files false (Some path.entry.now) (map (λ t. t.now) texts.now)) result }
+{
+    if !is_path(path.as_bytes()) {
+        return Err(LineProblem::Bad(BadValue::new(path, "as", PATH_FORM)));
+    }
+    let [local] = texts else {
+        return Err(LineProblem::Bad(BadValue::misfit(path, "as", ONE_LOCAL)));
+    };
+    let mut files = Vec::new(alloc);
+    let file = PutFile {
+        local: *local,
+        path: path_for(path, false),
+    };
+    match files.push(file) {
+        Ok(()) => Ok(files),
+        Err(_) => Err(LineProblem::NoMemory),
+    }
 }

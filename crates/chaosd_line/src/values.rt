@@ -246,7 +246,7 @@ impl Form for Host {
     ghost reads = { λ _. peer_of };
 
     fn expected(&self) -> &'static str {
-        "a Chaosnet address, `=` and a UDP address, such as 402=127.0.0.1:9002"
+        "a Chaosnet address, `=` and a UDP address with a port from 1 to 65535, such as 402=127.0.0.1:9002"
     }
 
     #[tactic(auto, unfolding(crate::specs::Values::peer_of))]

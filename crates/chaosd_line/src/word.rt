@@ -6,9 +6,7 @@ ghost use Rattle.chaosd_line.specs.Values.{is_contact, takes};
 
 use crate::bad_value::PATH_FORM;
 use chaos_file::{is_path, is_user};
-
-/// The most bytes of a contact name.
-const MAX_CONTACT: usize = 64;
+use chaos_host::MAX_CONTACT;
 
 /// Which words stand for themselves at a place.
 #[derive(Clone, Copy)]

@@ -3,5 +3,3 @@ pub mod Limiter
 pub mod Ledger
 pub mod Change
 pub mod Warning
-pub mod Source
-pub mod SocketFault

@@ -54,8 +54,7 @@ fn asking_of(known: Option<SocketAddrV4>, from: SocketAddrV4) -> Asking
 }
 
 impl Ledger {
-    ghost use Rattle.std.specs.Prelude.{◌↔◌, ◌⊎◌, false, IsTrue, None, Some, replicate};
-    ghost use Rattle.std.specs.List.{Any};
+    ghost use Rattle.std.specs.Prelude.{false, None, replicate};
 
     /// The ledger of a server that has heard nobody.
     pub fn new(peers: Peers) -> Self
@@ -82,17 +81,6 @@ impl Ledger {
         ensures { result.now ≡ self.now.peers }
     {
         &self.peers
-    }
-
-    /// Whether a peer or the bridge is at this UDP address.
-    pub fn has_socket(&self, from: SocketAddrV4) -> bool
-        // The result is true exactly where a peer or the bridge is at the UDP address.
-        ensures { IsTrue result
-            ↔ (Any (λ peer. peer.socket ≡ from) self.now.peers.hosts
-            ⊎ (self.now.peers.bridge ≡ Some from)) }
-    {
-        self.peers.hosts().iter().any(|peer| peer.socket == from)
-            || self.peers.bridge() == Some(from)
     }
 
     /// A datagram of this host came from this UDP address. The result says what is to be reported

@@ -1,4 +1,4 @@
-//! The log of a server's connections and of what their commands changed.
+//! What a journal makes of what a server reports.
 ghost use Rattle.std.specs.Prelude.{None};
 
 use crate::change::{Asked, ChangeText, Printed, matter_of};
@@ -6,13 +6,9 @@ use crate::journal::Journal;
 use crate::level::Matter;
 use chaos_conn::End;
 use chaos_file::{Cause, Change};
-use file_server::{Ending, Log};
+use chaos_link::Reports;
+use file_server::{Ending, LinkLog, Log};
 use std::time::Clock;
-
-/// Logs in a journal what a server reports: each connection that opens and each that ends, but of
-/// no host that isn't a peer, since such a host isn't answered; and what each command changed.
-#[derive(Drop)]
-pub struct ServerLog<'a, R>(pub &'a Journal<'a, R>);
 
 /// Why a connection ended, for a user.
 fn words_of(ending: Ending) -> &'static str {
@@ -24,14 +20,16 @@ fn words_of(ending: Ending) -> &'static str {
     }
 }
 
-impl<R: Clock + Eprint> Log for ServerLog<'_, R> {
+/// A line for each connection that opens and each that ends, but of no host that isn't a peer, since
+/// such a host isn't answered; and for what each command changed.
+impl<R: Clock + Eprint> Log for Journal<'_, R> {
     // What is written to standard error no clause can say.
     ghost told = { λ _. None };
 
     fn opened(&mut self, peer: End) {
         let End { address, index } = peer;
-        if self.0.is_peer(address) {
-            self.0.tell(
+        if self.is_peer(address) {
+            let _ = self.log(
                 Matter::Connection,
                 &format_args!("host {address:06o} opens connection {index:06o}"),
             );
@@ -40,13 +38,13 @@ impl<R: Clock + Eprint> Log for ServerLog<'_, R> {
 
     fn ended(&mut self, peer: End, login: Option<&[u8]>, commands: u64, ending: Ending) {
         let End { address, index } = peer;
-        if !self.0.is_peer(address) {
+        if !self.is_peer(address) {
             return;
         }
         let name = Printed(login.unwrap_or(b"nobody"));
         let plural = if commands == 1 { "" } else { "s" };
         let why = words_of(ending);
-        self.0.tell(
+        let _ = self.log(
             Matter::Connection,
             &format_args!(
                 "connection {index:06o} of host {address:06o} ends: {name}, {commands} command{plural}, {why}"
@@ -62,13 +60,31 @@ impl<R: Clock + Eprint> Log for ServerLog<'_, R> {
         cause: Option<Cause<'_>>,
     ) {
         match (matter_of(change, cause), change, cause) {
-            (Matter::Fault, Change::Refused(attempt, _), Some(Cause::System(fault))) => self.0.tell(
-                Matter::Fault,
-                &format_args!("can't {}: {fault}", Asked(attempt)),
-            ),
-            (matter, _, _) => self
-                .0
-                .tell_of(peer.address, matter, &ChangeText { change, cause }),
+            (Matter::Fault, Change::Refused(attempt, _), Some(Cause::System(fault))) => {
+                let _ = self.log(
+                    Matter::Fault,
+                    &format_args!("can't {}: {fault}", Asked(attempt)),
+                );
+            }
+            (matter, _, _) => self.log_of(peer.address, matter, &ChangeText { change, cause }),
         }
+    }
+}
+
+/// A line for a host that asks from where it isn't known, and for a call of the socket that failed.
+impl<R: Clock + Eprint, L: Reports> LinkLog<L> for Journal<'_, R> {
+    ghost reads = { L.reported };
+
+    fn heard(&mut self, link: &L, address: u16) {
+        if let Some(from) = link.report().source {
+            self.hear(address, from);
+        }
+    }
+
+    fn turned(&mut self, link: &L) {
+        if let Some(fault) = link.report().fault {
+            let _ = self.log(Matter::Socket, &fault);
+        }
+        self.end_turn();
     }
 }

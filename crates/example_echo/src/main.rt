@@ -6,8 +6,8 @@
 
 use chaos_conn::ConnConfig;
 use chaos_host::{CallFault, ConnId, Host, HostDelivered};
-use chaos_host_stream::{HostStream, Peek};
 use chaos_packet::{Outbox, Packet, PktNum, body_of};
+use chaos_stream::{HostStream, Peek};
 use std::alloc::{AllocError, Global};
 use std::io;
 use std::process::ExitCode;

@@ -1,16 +1,16 @@
 -- What a client's turns ask of its link.
-use Rattle.std.proofs.Common.{◌≡◌, ℕ, Bool, List, [], ◌++◌, refl, sym, subst, inl, inr}
+use Rattle.std.proofs.Common.{◌≡◌, ℕ, Bool, List, [], refl, inl, inr}
 use Rattle.std.specs.Prelude.{Option, None, Some, OnOk, Result, Ok, Err}
 use Rattle.chaos_packet.specs.Outbox.{OutboxView}
 use Rattle.chaos_link.specs.Link.{Ask, AskedSince, Asks, QueueView}
 use Rattle.chaos_link.specs.declared.carriage.Carriage.{Carriage}
 use Rattle.chaos_host.specs.View.{HostView}
 use Rattle.chaos_host.specs.declared.answers.HostDelivered.{HostDelivered}
-use Rattle.chaos_turn.specs.Link.{turn_asks}
-use Rattle.chaos_turn.specs.Station.{Station, station}
-use Rattle.chaos_turn.specs.Turn.{RunsClientTurn, client_phases}
-use Rattle.chaos_turn.specs.declared.end.TurnEnd.{TurnEnd}
-use Rattle.file_client.specs.Caller.{CallerView, Connects, HangsUpBy, HangsUp, Stays, TurnsAt, TurnsOrStops}
+use Rattle.chaos_node.specs.Link.{turn_asks}
+use Rattle.chaos_node.specs.Station.{Station, station}
+use Rattle.chaos_node.specs.Turn.{RunsClientTurn, client_phases}
+use Rattle.chaos_node.specs.declared.end.TurnEnd.{TurnEnd}
+use Rattle.file_client.specs.Caller.{CallerView, HangsUpBy, HangsUp, Stays, TurnsAt}
 use Rattle.file_client.specs.Pace.{Pace}
 use Rattle.file_client.specs.Talk.{Talker, Exchanges, SendsFarewell}
 use Rattle.file_client.specs.Turn.{TakesTurn}
@@ -59,11 +59,6 @@ module _ (A B : List Ask → Type 0) (f : (asks : List Ask) → A asks → B ask
   stays_by : (before after : Option QueueView) (c d : CallerView) → Stays A before after c d → Stays B before after c d
   stays_by before after c d (is, queue, none) = (is, queue, f [] none)
 
-  pub turns_or_stops_by : (p : Pace) (was now : ℕ) (before after : Option QueueView) (c d : CallerView)
-      → TurnsOrStops p A was now before after c d → TurnsOrStops p B was now before after c d
-  turns_or_stops_by p was now before after c d (inl (at, stays)) = inl (at, stays_by before after c d stays)
-  turns_or_stops_by p was now before after c d (inr (shown, turns)) = inr (shown, turns_by _ now before after _ d turns)
-
   hangs_up_at : (p : Pace) (id : Option ℕ) (before after : Option QueueView) (c d : CallerView)
       → HangsUpBy id p A before after c d → HangsUpBy id p B before after c d
   hangs_up_at p None before after c d stays = stays_by before after c d stays
@@ -74,10 +69,6 @@ module _ (A B : List Ask → Type 0) (f : (asks : List Ask) → A asks → B ask
   pub hangs_up_by : (p : Pace) (before after : Option QueueView) (c d : CallerView) → HangsUp p A before after c d
       → HangsUp p B before after c d
   hangs_up_by p before after c d hung = hangs_up_at p c.id before after c d hung
-
-  pub connects_by : (p : Pace) (now : ℕ) (before after : Option QueueView) (c d : CallerView)
-      → Connects p A now before after c d → Connects p B now before after c d
-  connects_by p now before after c d (b, hung, shown, is) = (b, hangs_up_by p before after c b hung, shown, is)
 
   pub exchanges_by : (p : Pace) (first : Talker) (command : List ℕ) (reply : Option (List ℕ)) (last : Talker)
       → Exchanges p A first command reply last → Exchanges p B first command reply last
@@ -114,41 +105,3 @@ module _ {T S : Type 0} (t : T) (link : T → S) (old new : AskedSince S Ask) wh
     runs_by (Asks old new) (Asks (λ (first : T). old (link first)) (λ (first : T). new (link first))) asks_through
         may_wait carriage now (station host before waiting) (station left after out) end told runs,
   )
-
--- where each state of the link is that of something that has it, what was asked of that was asked of the link
-module _ {T S : Type 0} (t : T) (s : S) (link : T → S) (put : S → T) (same : (s : S) → link (put s) ≡ s)
-    (old new : AskedSince S Ask) where
-  abbrev Within : List Ask → Type 0
-  Within more = Asks (λ (first : T). old (link first)) (λ (first : T). new (link first)) more
-
-  asks_within : (more : List Ask) → Within more → Asks old new more
-  asks_within more asks = record {
-    goes = λ first before was.
-        subst (λ (s : S). new s (before ++ more)) (same first)
-        (asks.goes (put first) before (subst (λ (s : S). old s before) (sym (same first)) was));
-  }
-
-  module _ {A E : Type 0} (r : Result A E) where
-    pub turns_within : (Waits : Bool → Type 0) (now : ℕ) (before after : Option QueueView) (c d : CallerView)
-        → OnOk r (TurnsAt Within Waits now before after c d) → OnOk r (TurnsAt (Asks old new) Waits now before after c d)
-    turns_within Waits now before after c d h =
-        well_by r _ _ (turns_by Within (Asks old new) asks_within Waits now before after c d) h
-
-    pub hangs_up_within : (p : Pace) (before after : Option QueueView) (c d : CallerView) → OnOk r (HangsUp p Within before after c d)
-        → OnOk r (HangsUp p (Asks old new) before after c d)
-    hangs_up_within p before after c d h =
-        well_by r _ _ (hangs_up_by Within (Asks old new) asks_within p before after c d) h
-
-    pub connects_within : (p : Pace) (now : ℕ) (before after : Option QueueView) (c d : CallerView)
-        → OnOk r (Connects p Within now before after c d) → OnOk r (Connects p (Asks old new) now before after c d)
-    connects_within p now before after c d h =
-        well_by r _ _ (connects_by Within (Asks old new) asks_within p now before after c d) h
-
-    pub farewell_within : (p : Pace) (first last : Talker) → OnOk r (SendsFarewell p Within first last)
-        → OnOk r (SendsFarewell p (Asks old new) first last)
-    farewell_within p first last h = well_by r _ _ (farewell_of Within (Asks old new) asks_within p first last) h
-
-  pub turns_or_stops_within : (p : Pace) (was now : ℕ) (before after : Option QueueView) (c d : CallerView)
-      → TurnsOrStops p Within was now before after c d → TurnsOrStops p (Asks old new) was now before after c d
-  turns_or_stops_within p was now before after c d h =
-      turns_or_stops_by Within (Asks old new) asks_within p was now before after c d h

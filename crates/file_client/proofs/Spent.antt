@@ -3,7 +3,7 @@ use Rattle.std.proofs.Common.{◌≡◌, ◌≤◌, ◌<◌, ℕ, ◌+◌, ◌-�
 use Rattle.std.proofs.lemmas.Bool.{leb-true}
 use Rattle.std.proofs.lemmas.Bool.Decides.{leb_tells}
 use Rattle.file_client.specs.Patience.{IsSpent, IsWithinTurns, is_spent}
-use Rattle.chaosd_copy.specs.declared.limits.TheConstants.{MOST_TURNS}
+use Rattle.file_copy.specs.declared.limits.TheConstants.{MOST_TURNS}
 use Rattle.file_client.specs.declared.patience.Patience.{Patience}
 use Rattle.file_client.specs.declared.patience.Patience.TheVariants.{Turns, Millis}
 

@@ -1,13 +1,13 @@
 -- What clients say and hear, step after step.
 use Rattle.std.proofs.Common.{◌≡◌, ◌⊎◌, ℕ, ◌+◌, Bool, true, false, List, [], ◌∷◌, ◌++◌, refl, sym, ap, ◌∙◌, subst, append_assoc, append-nil, add_assoc, add-zero, arith, inl, inr}
 use Rattle.std.specs.Prelude.{Option, None, Some, is_some, OnOk, Result}
-use Rattle.chaosd_io.specs.declared.fault.RunFault.{RunFault}
+use Rattle.chaos_node.specs.declared.fault.NodeFault.{NodeFault}
 use Rattle.chaos_link.specs.Link.{Ask, AskedSince, Asks, QueueView}
 use Rattle.chaos_link.proofs.Asked.{asks_both}
 use Rattle.chaos_packet.specs.Item.{ItemView}
 use Rattle.chaos_host.specs.View.{HostView}
 use Rattle.file_client.specs.Calls.{is_over}
-use Rattle.file_client.specs.Caller.{CallerView, Connects, HangsUpBy, TurnsAt, asked, asked_again}
+use Rattle.file_client.specs.Caller.{CallerView, Connects, HangsUpBy, ReceivesBehind, SendsOnce, TurnsAt, asked, asked_again}
 use Rattle.file_client.specs.Pace.{Pace}
 use Rattle.file_client.specs.Patience.{IsSpent}
 use Rattle.file_client.specs.Talk.{Talker, Talk, Step, Calls, Writes, Reads, Turns, Does, Goes, Talks, WritesAndTurns, Exchanges, SendsFarewell, and_later, and_then, command_item, receiving, newly_sent, silence, talk_of, talker}
@@ -97,14 +97,14 @@ calling p Asked now queue queue' c d none (b, hung, shows, is) =
     calls_by p Asked now c.id queue queue' c b d (no_id c.id none) refl hung shows is
 
 pub talks_called : (p : Pace) (Asked : List Ask → Type 0) (now : ℕ) (queue queue' : Option QueueView) (c d : CallerView)
-    (result : Result (Unit {0}) RunFault)
+    (result : Result (Unit {0}) NodeFault)
     → is_some c.id ≡ false → OnOk result (Connects p Asked now queue queue' c d)
     → OnOk result (Talks p (talker c queue) silence (talker d queue'))
 talks_called p Asked now queue queue' c d result none connects =
     well_by result _ _ (λ h. (calling p Asked now queue queue' c d none h).0) connects
 
 pub asks_called : (p : Pace) (Asked : List Ask → Type 0) (now : ℕ) (queue queue' : Option QueueView) (c d : CallerView)
-    (result : Result (Unit {0}) RunFault)
+    (result : Result (Unit {0}) NodeFault)
     → is_some c.id ≡ false → OnOk result (Connects p Asked now queue queue' c d) → OnOk result (Asked [])
 asks_called p Asked now queue queue' c d result none connects =
     well_by result _ _ (λ h. (calling p Asked now queue queue' c d none h).1) connects
@@ -115,6 +115,12 @@ pub talks_reading : (p : Pace) (c d : Talker) (got : Option (List ℕ)) → Does
 talks_reading p c d None does = talks_step p c c d silence (Reads None) (talks_none p c) does
 talks_reading p c d (Some bytes) does = talks_step p c c d silence (Reads (Some bytes)) (talks_none p c) does
 
+-- it read, where the command was written
+pub talks_behind : (p : Pace) (is_written : Bool) (got : Option (List ℕ)) (c d : CallerView) (queue : Option QueueView)
+    → ReceivesBehind is_written got c d → Talks p (talker c queue) (receiving got) (talker d queue)
+talks_behind p true got c d queue receives = talks_reading p (talker c queue) (talker d queue) got (receives, refl)
+talks_behind p false got c d queue (none, same) = rw (none, same) (talks_none p (talker c queue))
+
 -- it tried to write
 pub talks_writing : (p : Pace) (c d : Talker) (item : ItemView) (now : ℕ) (taken : Bool)
     → Does p c (Writes item now taken) d → WritesAndTurns p (λ asks. asks ≡ []) 0 c item false taken d
@@ -122,6 +128,15 @@ talks_writing p c d item now true does =
     (λ e. refl, [], refl, talks_step p c c d silence (Writes item now true) (talks_none p c) does)
 talks_writing p c d item now false does =
     (λ e. e, [], refl, talks_step p c c d silence (Writes item now false) (talks_none p c) does)
+
+-- it tried to write what wasn't written yet
+pub talks_writing_once : (p : Pace) (was : Bool) (item : ItemView) (now : ℕ) (taken : Bool) (c d : CallerView)
+    (queue : Option QueueView) → p.Shows now → SendsOnce was item now taken c d
+    → WritesAndTurns p (λ asks. asks ≡ []) 0 (talker c queue) item was taken (talker d queue)
+talks_writing_once p true item now taken c d queue shown (is, same) =
+    rw (is, same) (λ e. refl, [], refl, talks_none p (talker c queue))
+talks_writing_once p false item now taken c d queue shown sends =
+    talks_writing p (talker c queue) (talker d queue) item now taken (shown, sends, refl)
 
 -- a turn behind a write
 pub talks_turning : (p : Pace) (Asked : List Ask → Type 0) (c d e : Talker) (item : ItemView) (was is : Bool) (now : ℕ)
@@ -148,6 +163,18 @@ module _ {S : Type 0} where
       absurd (let no : false ≡ true = again refl in let none : ⊥ = cc in none)
   talks_again p old mid new c d e item false is turns (kept, xs, asked, first) (again, ys, more, later) =
       (λ same. absurd (let no : ⊥ = cc in no), xs ++ ys, asks_both old mid new xs ys asked more, talks_on p c d e _ _ first later)
+
+  -- it was tried again, and a turn followed
+  pub talks_again_turning : (p : Pace) (old mid new : AskedSince S Ask) (c : Talker) (d : CallerView) (queue : Option QueueView)
+      (written e : CallerView) (queue' : Option QueueView) (item : ItemView) (was is : Bool) (turns then now : ℕ)
+      → WritesAndTurns p (Asks old mid) turns c item false was (talker d queue) → p.Shows then
+      → SendsOnce was item then is d written → p.Shows now
+      → TurnsAt (Asks mid new) (p.Waits true) now queue queue' (asked_again p now written) e
+      → WritesAndTurns p (Asks old new) (turns + 1) c item false is (talker e queue')
+  talks_again_turning p old mid new c d queue written e queue' item was is turns then now before shown sends shows turned =
+      talks_again p old mid new c (talker d queue) (talker e queue') item was is turns before
+      (talks_turning p (Asks mid new) (talker d queue) (talker written queue) (talker e queue') item was is now
+      (talks_writing_once p was item then is d written queue shown sends) shows turned)
 
 -- nothing was received behind it
 pub talks_unreceived : (p : Pace) (Asked : List Ask → Type 0) (c d e : Talker) (item : ItemView) (was is : Bool) (turns : ℕ)

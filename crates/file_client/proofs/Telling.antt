@@ -3,7 +3,7 @@ use Rattle.std.proofs.Common.{◌≡◌, ℕ, Bool, true, false, List, [], ◌�
 use Rattle.std.specs.Prelude.{map, Option, Some, None}
 use Rattle.std.proofs.lemmas.List.{map_push}
 use Rattle.chaos_link.specs.Link.{Ask, QueueView}
-use Rattle.chaosd_copy.specs.Talk.{Talked, received_in, sent_if, with_received, with_sent}
+use Rattle.file_copy.specs.Talk.{Talked, received_in, sent_if, with_received, with_sent}
 use Rattle.file_client.specs.Caller.{CallerView, Receives, Sends, TurnsOrStops, asked_again}
 use Rattle.file_client.specs.Pace.{Pace}
 use Rattle.file_client.specs.Talk.{Talker, Writes, Reads, Turns, Says, Told, and_then, command_item, talker}

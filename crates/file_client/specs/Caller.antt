@@ -16,7 +16,7 @@ use Rattle.chaos_host.specs.Calls.{HostReply, host_end}
 use Rattle.chaos_host.specs.Connect.{ConnectAnswer, host_connect}
 use Rattle.chaos_host.specs.View.{HostView, host_look, new_host}
 use Rattle.chaos_host.specs.declared.fault.CallFault.{CallFault}
-use Rattle.chaos_turn.specs.declared.limits.TheConstants.{TURN_ROOM}
+use Rattle.chaos_node.specs.declared.limits.TheConstants.{TURN_ROOM}
 use Rattle.file_client.specs.declared.route.Route.{Route}
 use Rattle.file_client.specs.Calls.{after_passing, call_by, data_read, is_wrote}
 use Rattle.file_client.specs.Pace.{Pace}
@@ -76,6 +76,16 @@ Sends item now taken c d = Acts 2 false (is_wrote (write_of item now c).answer) 
 -- The connection was read, and these are the data that it gave.
 abbrev pub Receives : Option (List ℕ) → CallerView → CallerView → Type 0
 Receives got c d = Acts 1 None (data_read (read_of c).answer) got (read_of c) c d
+
+-- An item that wasn't written yet was; nothing was done where it was written before.
+abbrev pub SendsOnce : Bool → ItemView → ℕ → Bool → CallerView → CallerView → Type 0
+SendsOnce true item now taken c d = (taken ≡ true) × (d ≡ c)
+SendsOnce false item now taken c d = Sends item now taken c d
+
+-- The connection was read, where the command was written; nothing was done where it wasn't.
+abbrev pub ReceivesBehind : Bool → Option (List ℕ) → CallerView → CallerView → Type 0
+ReceivesBehind true got c d = Receives got c d
+ReceivesBehind false got c d = (got ≡ None) × (d ≡ c)
 
 -- ---- a connection's beginning and end
 

@@ -1,4 +1,4 @@
-pub mod Client
+pub mod ClientHost
 pub mod Calls
 pub mod Contact
 pub mod Fault

@@ -1,7 +1,7 @@
 -- What a client goes by.
 use Rattle.std.specs.Prelude.{◌≡◌, ℕ, Bool, Option, Some, None, Result, Ok}
-use Rattle.chaosd_clock.specs.Clock.{IsMoment, number_of}
-use Rattle.chaosd_clock.specs.declared.clock.Epoch.{Epoch}
+use Rattle.chaos_node.specs.Clock.{IsMoment, number_of}
+use Rattle.chaos_node.specs.declared.clock.Epoch.{Epoch}
 use Rattle.file_client.specs.Patience.{first_wait_of, usual_patience}
 use Rattle.file_client.specs.declared.patience.Patience.{Patience}
 use Rattle.file_client.specs.declared.timing.Timing.{Timing}

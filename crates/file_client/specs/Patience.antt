@@ -1,6 +1,6 @@
 -- How long a client waits for a reply.
 use Rattle.std.specs.Prelude.{◌≡◌, ◌≤◌, ◌⊎◌, ℕ, ◌-◌, ◌/◌, min, Bool, nat_le, Option, Some, None}
-use Rattle.chaosd_copy.specs.declared.limits.TheConstants.{MOST_TURNS}
+use Rattle.file_copy.specs.declared.limits.TheConstants.{MOST_TURNS}
 use Rattle.file_client.specs.declared.limits.TheConstants.{COMMAND_TURNS, OPEN_MILLIS, OPEN_SHARE}
 use Rattle.file_client.specs.declared.patience.Patience.{Patience}
 use Rattle.file_client.specs.declared.patience.Patience.TheVariants.{Turns, Millis}

@@ -1,6 +1,6 @@
 -- What a client's connection says and is told.
 use Rattle.std.specs.Prelude.{refl, ◌≡◌, ◌≤◌, ◌⊎◌, ℕ, ◌+◌, Bool, true, false, List, [], ◌∷◌, ◌++◌, Option, Some, None, map}
-use Rattle.chaosd_copy.specs.Talk.{Talked, silence as nothing}
+use Rattle.file_copy.specs.Talk.{Talked, silence as nothing}
 use Rattle.chaos_packet.specs.Item.{ItemView}
 use Rattle.chaos_packet.specs.Opcode.{op_data, op_eof}
 use Rattle.chaos_link.specs.Link.{Ask, QueueView}

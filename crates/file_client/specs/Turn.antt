@@ -5,9 +5,9 @@ use Rattle.chaos_link.specs.Link.{Ask, QueueView}
 use Rattle.chaos_link.specs.declared.carriage.Carriage.{Carriage}
 use Rattle.chaos_host.specs.View.{HostView}
 use Rattle.chaos_host.specs.declared.answers.HostDelivered.{HostDelivered}
-use Rattle.chaos_turn.specs.Station.{station}
-use Rattle.chaos_turn.specs.Turn.{RunsClientTurn}
-use Rattle.chaos_turn.specs.declared.end.TurnEnd.{TurnEnd}
+use Rattle.chaos_node.specs.Station.{station}
+use Rattle.chaos_node.specs.Turn.{RunsClientTurn}
+use Rattle.chaos_node.specs.declared.end.TurnEnd.{TurnEnd}
 
 -- A turn of a client's host, which may have waited so. Its link was asked what a turn asks, and this became of the packet that
 -- came.

@@ -1,38 +1,17 @@
 //! A client's calls on the one connection that it may have.
 ghost use Rattle.std.specs.Prelude.{◌≡◌, ◌<◌};
 ghost use Rattle.chaos_packet.specs.Outbox.{room_of, with_put};
-ghost use Rattle.chaos_conn.specs.Act.{Finished, Read, Write};
+ghost use Rattle.chaos_conn.specs.Act.{Finished, Read};
 ghost use Rattle.chaos_conn.specs.Calls.{front_of};
 ghost use Rattle.chaos_host.specs.Calls.{plain_reply_of};
 ghost use Rattle.chaos_host.specs.View.{host_look};
-ghost use Rattle.chaosd_copy.specs.Talk.{taken};
-ghost use Rattle.file_client.specs.Calls.{call_by, data_in_front, data_read, is_over, is_read, is_wrote};
+ghost use Rattle.file_copy.specs.Talk.{taken};
+ghost use Rattle.file_client.specs.Calls.{call_by, data_in_front, data_read, is_over, is_read};
 
 use chaos_conn::ReadDone;
 use chaos_file::Reply;
 use chaos_host::{CallFault, ConnId, Host};
-use chaos_packet::{Opcode, Outbox};
-
-/// Writes an item, and says whether the connection took it.
-pub(crate) fn write_item(
-    host: &mut Host,
-    id: Option<ConnId>,
-    op: Opcode,
-    bytes: &[u8],
-    now: u64,
-    out: &mut Outbox,
-) -> bool
-    requires { 0 < room_of out.old }
-    ensures host { host.new ≡ (call_by host.old (Write op bytes.now now) id).view }
-    ensures out { out.new
-        ≡ with_put out.old (call_by host.old (Write op bytes.now now) id).packets }
-    ensures told { result ≡ is_wrote (call_by host.old (Write op bytes.now now) id).answer }
-{
-    match id {
-        Some(id) => host.write(id, op, bytes, now, out).is_ok(),
-        None => false,
-    }
-}
+use chaos_packet::Outbox;
 
 /// Reads the next item, where it is held, and says whether it is data, which are then left in the
 /// caller's place: a copy from where they lie. What is no data is dropped. Where none are taken, no

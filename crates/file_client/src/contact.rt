@@ -3,8 +3,8 @@ ghost use Rattle.std.specs.Prelude.{◌≡◌, ◌==◌, ◌≤◌, IfNone, None
 ghost use Rattle.std.specs.List.{list_any};
 ghost use Rattle.file_client.specs.Contact.{checked_contact, contact_fault, padded};
 
+use chaos_file::CONTACT;
 use chaos_host::MAX_CONTACT;
-use chaos_serve::CONTACT;
 use std::marker::Model;
 use thiserror::Error;
 

@@ -2,9 +2,9 @@
 ghost use Rattle.std.specs.Prelude.{◌≡◌, ◌<◌, []};
 ghost use Rattle.file_client.specs.Calls.{after_passing, pass_index};
 
+use chaos_file::CONTACT;
 use chaos_host::Host;
 use chaos_packet::{Outbox, PktNum};
-use chaos_serve::CONTACT;
 
 /// Uses up so many indices: each by a connection that is asked for and given up at once, whose
 /// request isn't sent. So copies of an older process's packets find no connection.

@@ -2,38 +2,38 @@
 //! host after another, asked for, written to, read from and hung up, turn by turn.
 //!
 //! No sockets and no clock of its own, and no allocation but the host's. `client` is the client,
-//! and `call` one with turns over a link by a clock: a talk with a FILE server. `calls` is what
-//! is done with a client's connection; `contact` is the name that a
-//! server is asked for. `turns` is what a client takes turns with, `timed` turns over a link by a
-//! clock. `indices` passes over indices that an older process may have had; `patience` says how
-//! long a reply is waited for, `reply_timer` why none came, and `text` has bytes in words for a
-//! user. `trip` measures how long a packet and its answer take.
+//! which is a talk with a FILE server, and `client_host` its host; `calls` is what is done with the
+//! host's connection. `driver` is what drives a client, and `clock_driver` the driver by a clock,
+//! over a link. `contact` is the name that a server is asked for. `indices` passes over indices that
+//! an older process may have had; `patience` says how long a reply is waited for, `reply_timer` why
+//! none came, and `text` has bytes in words for a user. `trip` measures how long a packet and its
+//! answer take.
 #![tactic(auto)]
 
-mod call;
 mod calls;
 mod client;
+mod client_host;
+mod clock_driver;
 mod contact;
+mod driver;
 mod indices;
 mod limits;
 mod patience;
 mod reply_timer;
 mod route;
 mod text;
-mod timed;
 mod timing;
 mod trip;
-mod turns;
 
-pub use call::Call;
 pub use client::Client;
+pub use client_host::ClientHost;
+pub use clock_driver::ClockDriver;
 pub use contact::{Contact, ContactFault};
+pub use driver::Driver;
 pub use limits::law_limits;
 pub use patience::Patience;
 pub use reply_timer::NoReply;
 pub use route::Route;
 pub use text::Shown;
-pub use timed::Timed;
 pub use timing::Timing;
 pub use trip::{RoundTrip, retransmit_for, round_trip};
-pub use turns::Turns;

@@ -3,7 +3,7 @@ ghost use Rattle.std.specs.Prelude.{◌≡◌};
 ghost use Rattle.file_client.specs.Pace.{usual_timing};
 
 use crate::patience::Patience;
-use chaosd_clock::Epoch;
+use chaos_node::Epoch;
 
 /// When a client's run began, with the numbers and indices that its connections begin with, and how
 /// long the client waits for a reply.

@@ -3,16 +3,15 @@ ghost use Rattle.std.specs.Prelude.{◌≡◌, ◌<◌, ◌≤◌, ◌-◌, ◌�
 ghost use Rattle.file_client.specs.Fault.{IsTurnFault};
 ghost use Rattle.file_client.specs.RoundTrip.{IsTripBetween, IsUnderWay, retransmit_of};
 
+use crate::driver::Driver;
 use crate::indices::pass_indices;
 use crate::limits::{LEAST_RETRANSMIT, MOST_RETRANSMIT, TRAIN, TRAINS_OF_A_WINDOW, TRIP_MILLIS};
 use crate::route::Route;
-use crate::turns::Turns;
 use chaos_conn::{ConnConfig, Delivered};
 use chaos_host::{Host, HostDelivered};
+use chaos_node::{NodeFault, TURN_ROOM};
 use chaos_packet::Outbox;
-use chaos_turn::TURN_ROOM;
-use chaosd_copy::MOST_TURNS;
-use chaosd_io::RunFault;
+use file_copy::MOST_TURNS;
 use std::alloc::Global;
 
 /// The bytes of a request of the train: about those of a WRITE, so that the train takes as long on
@@ -83,29 +82,36 @@ impl Train {
     }
 
     /// Takes a turn, and note of an answer that came in it.
-    fn turn<T: Turns>(
+    fn turn<D: Driver>(
         &mut self,
-        turns: &mut T,
+        driver: &mut D,
         host: &mut Host,
         out: &mut Outbox,
         route: &Route,
         may_wait: bool,
-    ) -> Result<(), RunFault>
+    ) -> Result<(), NodeFault>
         requires room { TURN_ROOM ≤ out.old.cap }
-        requires under_way { IsUnderWay (T.pace (T.time turns.old)) self.old }
-        ensures under_way { OnOk result (IsUnderWay (T.pace (T.time turns.old)) self.new) }
-        ensures unfailed { OnOk result (T.failures turns.new ≤ T.failures turns.old) }
+        requires under_way { IsUnderWay (D.pace (D.time driver.old)) self.old }
+        ensures under_way { OnOk result (IsUnderWay (D.pace (D.time driver.old)) self.new) }
+        ensures unfailed { OnOk result (D.failures driver.new ≤ D.failures driver.old) }
         ensures faults { IfErr result
-            (IsTurnFault (T.stops (T.time turns.old)) (T.failures turns.new)) }
-        ensures same_turns { (T.links turns.new ≡ T.links turns.old)
-            × (T.time turns.new ≡ T.time turns.old) }
+            (IsTurnFault (D.stops (D.time driver.old)) (D.failures driver.new)) }
+        ensures same_driver { (D.links driver.new ≡ D.links driver.old)
+            × (D.time driver.new ≡ D.time driver.old) }
         ensures empty { OnOk result (out.new.packets ≡ []) }
         ensures room { out.new.cap ≡ out.old.cap }
     {
-        let mut told = None;
-        turns.turn(host, self.latest, out, &mut told, route.carriage, may_wait)?;
-        self.latest = turns.now()?;
-        if is_answer(&told) {
+        let mut last_arrival = None;
+        driver.turn(
+            host,
+            self.latest,
+            out,
+            &mut last_arrival,
+            route.carriage,
+            may_wait,
+        )?;
+        self.latest = driver.now()?;
+        if is_answer(&last_arrival) {
             let millis = self.millis();
             let first = match self.trip {
                 Some(trip) => trip.first,
@@ -126,58 +132,58 @@ impl Train {
 /// behind the other. The result is `None` where no answer comes within a second; no clause says so.
 ///
 /// # Errors
-/// `NoMemory`, `LinkFault` and `ClockFault`.
-pub fn round_trip<T: Turns>(
+/// `NoMemory`, `Link` and `Clock`.
+pub fn round_trip<D: Driver>(
     alloc: Global,
-    turns: &mut T,
+    driver: &mut D,
     route: &Route,
-) -> Result<Option<RoundTrip>, RunFault>
+    passed: u8,
+) -> Result<Option<RoundTrip>, NodeFault>
     requires { 0 < route.now.me }
     // A round trip that is measured is the time until a first answer and the time until a last
-    // answer. Each lies between two moments that the turns may show.
-    ensures trip { IfOk result (λ trip. IfSome trip (IsTripBetween (T.pace (T.time turns.old)))) }
+    // answer. Each lies between two moments that the driver may show.
+    ensures trip { IfOk result (λ trip. IfSome trip (IsTripBetween (D.pace (D.time driver.old)))) }
     // If it ends well, the links' count of failures didn't rise.
-    ensures unfailed { OnOk result (T.failures turns.new ≤ T.failures turns.old) }
+    ensures unfailed { OnOk result (D.failures driver.new ≤ D.failures driver.old) }
     // It fails only when out of memory, by a clock that may fail, or by a link of which failures
     // were counted.
     ensures faults { IfErr result
-        (λ fault. (fault ≡ RunFault.NoMemory)
-        ⊎ IsTurnFault (T.stops (T.time turns.old)) (T.failures turns.new) fault) }
+        (λ fault. (fault ≡ NodeFault.NoMemory)
+        ⊎ IsTurnFault (D.stops (D.time driver.old)) (D.failures driver.new) fault) }
     // The links and the clock stay.
-    ensures same_turns { (T.links turns.new ≡ T.links turns.old)
-        × (T.time turns.new ≡ T.time turns.old) }
+    ensures same_driver { (D.links driver.new ≡ D.links driver.old)
+        × (D.time driver.new ≡ D.time driver.old) }
 {
     let config = ConnConfig::with_window(1);
     let Ok(mut host) = Host::new(alloc, route.me, TRAIN as usize, config) else {
-        return Err(RunFault::NoMemory);
+        return Err(NodeFault::NoMemory);
     };
     let Ok(mut out) = Outbox::new(alloc, TURN_ROOM) else {
-        return Err(RunFault::NoMemory);
+        return Err(NodeFault::NoMemory);
     };
-    let passed = turns.passed().wrapping_add(APART);
-    pass_indices(&mut host, route.to, passed, &mut out);
-    let since = turns.now()?;
+    pass_indices(&mut host, route.to, passed.wrapping_add(APART), &mut out);
+    let since = driver.now()?;
     let mut train = Train::new(since);
     let mut request = [b' '; REQUEST_BYTES];
     request[..NOBODY.len()].copy_from_slice(NOBODY);
     for sent in 0..TRAIN {
-        let start = turns.start(since);
+        let start = driver.start(since);
         let _ = host.connect(route.to, &request, start, since, &mut out);
-        train.turn(turns, &mut host, &mut out, route, false)?;
+        train.turn(driver, &mut host, &mut out, route, false)?;
     }
     for turn in 0..MOST_TURNS {
         if train.is_over() {
             break;
         }
-        train.turn(turns, &mut host, &mut out, route, true)?;
+        train.turn(driver, &mut host, &mut out, route, true)?;
     }
     Ok(train.trip)
 }
 
 /// Whether the server answered a request, whatever it says.
-fn is_answer(told: &Option<HostDelivered>) -> bool {
+fn is_answer(last_arrival: &Option<HostDelivered>) -> bool {
     matches!(
-        told,
+        last_arrival,
         Some(HostDelivered::At(
             _,
             Delivered::Closed(_)

@@ -10,7 +10,7 @@ use Rattle.chaos_host.specs.Deeds.{HostEvent, host_made}
 use Rattle.chaos_host.specs.Deeds.HostEvent.{Connects, Ends}
 use Rattle.chaos_lab.specs.declared.side.Side.TheVariants.{A}
 use Rattle.chaos_net.specs.Net.{IsOwn}
-use Rattle.chaos_system.specs.System.{TakesCall}
+use Rattle.chaos_net.specs.System.{TakesCall}
 use Rattle.file_client.specs.Caller.{CallerView, after_call, asked, closed_by, connect_of}
 use Rattle.file_net.specs.FileNet.{FileNet, FileEvent, FileRun}
 use Rattle.file_end_to_end.specs.Program.{program_host, program_turns}

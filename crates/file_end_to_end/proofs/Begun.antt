@@ -35,12 +35,12 @@ use Rattle.chaos_link.specs.declared.carriage.Carriage.TheVariants.{One}
 use Rattle.chaos_link.specs.Link.{Addressed}
 use Rattle.chaos_link.specs.Loads.{EachSpelled}
 use Rattle.chaos_net.specs.Net.{IsOwn}
-use Rattle.chaos_turn.specs.Link.{read_all, sent_by}
-use Rattle.chaos_system.specs.Made.{packets_sent}
-use Rattle.chaos_system.specs.System.{IsNewSeat, Seat, System, TakesCall}
-use Rattle.chaos_system.specs.System.Step.{Calls}
-use Rattle.chaos_turn.proofs.Readback.{both_read, read_back}
-use Rattle.chaos_system.proofs.Behind.{at_both}
+use Rattle.chaos_node.specs.Link.{read_all, sent_by}
+use Rattle.chaos_net.specs.MadeTurns.{packets_sent}
+use Rattle.chaos_net.specs.System.{IsNewSeat, Seat, System, TakesCall}
+use Rattle.chaos_net.specs.System.Step.{Calls}
+use Rattle.chaos_node.proofs.Readback.{both_read, read_back}
+use Rattle.chaos_net.proofs.Behind.{at_both}
 use Rattle.file_client.specs.Calls.{after_passing, given_up, pass_index}
 use Rattle.file_client.specs.Caller.{CallerView, new_caller}
 use Rattle.file_server.specs.Server.{Server, server}

@@ -6,11 +6,11 @@ use Rattle.chaos_packet.specs.Packet.{PacketView}
 use Rattle.chaos_host.specs.Deeds.HostEvent.{Ticks}
 use Rattle.chaos_lab.specs.declared.side.Side.TheVariants.{A, B}
 use Rattle.chaos_net.specs.Net.NetEvent.{At, Arrives}
-use Rattle.chaos_turn.specs.Arrive.{Arrival, arrive_at_client, deliver_effect}
-use Rattle.chaos_turn.specs.Phase.{over_packets, over_slots}
-use Rattle.chaos_turn.specs.Slots.{tick_at}
-use Rattle.chaos_turn.specs.Turn.{client_phases}
-use Rattle.chaos_system.specs.Come.{AreFresh, AreSent, ComeFrom, ComeFresh, nothing_upon}
+use Rattle.chaos_node.specs.Arrive.{Arrival, arrive_at_client, deliver_effect}
+use Rattle.chaos_node.specs.Phase.{over_packets, over_slots}
+use Rattle.chaos_node.specs.Slots.{tick_at}
+use Rattle.chaos_node.specs.Turn.{client_phases}
+use Rattle.chaos_net.specs.Come.{AreFresh, AreSent, ComeFrom, ComeFresh, nothing_upon}
 use Rattle.file_net.specs.FileNet.{FileNet, FileEvent, Nets, Serves, FileRun, file_happens}
 use Rattle.file_end_to_end.proofs.Led.{IsLed, Leads, none_led, tick_led, copy_led, both_led, then_led, slots_led}
 

@@ -10,14 +10,14 @@ use Rattle.chaos_host.specs.Acted.{HostActed, no_effect}
 use Rattle.chaos_host.specs.Slot.{named_slot, place_of}
 use Rattle.chaos_host.specs.View.{id_at}
 use Rattle.chaos_host.specs.declared.slot.Slot.{Slot}
-use Rattle.chaos_serve.specs.Answer.{IsAnswered}
-use Rattle.chaos_serve.specs.Host.{DoesWorkInSlot, in_slot}
-use Rattle.chaos_serve.specs.Serve.{DoesWork, after_eof, after_reply}
-use Rattle.chaos_serve.specs.Work.{Work, NotOpen, Nothing, Full, LastItem, Command, work_of}
-use Rattle.chaos_serve.specs.declared.served.Served.{Served}
-use Rattle.chaos_serve.specs.declared.served.Served.TheVariants as told
-use Rattle.chaos_turn.specs.Arrive.{Arrival}
-use Rattle.chaos_turn.specs.Phase.{Effect}
+use Rattle.chaos_file.specs.ServeAnswer.{IsAnswered}
+use Rattle.chaos_file.specs.ServeHost.{DoesWorkInSlot, in_slot}
+use Rattle.chaos_file.specs.Serve.{DoesWork, after_eof, after_reply}
+use Rattle.chaos_file.specs.ServeWork.{Work, NotOpen, Nothing, Full, LastItem, Command, work_of}
+use Rattle.chaos_file.specs.declared.served.Served.{Served}
+use Rattle.chaos_file.specs.declared.served.Served.TheVariants as told
+use Rattle.chaos_node.specs.Arrive.{Arrival}
+use Rattle.chaos_node.specs.Phase.{Effect}
 use Rattle.file_server.specs.Arrive.{arrive_at_server}
 use Rattle.file_server.specs.Serve.{IsServedAt, ServesPlace, ServesSlots, serving_after}
 use Rattle.file_server.specs.Server.{Server, after_giving_back, server, with_host}

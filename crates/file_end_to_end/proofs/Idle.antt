@@ -5,12 +5,12 @@ use Rattle.chaos_file.specs.Store.{Files}
 use Rattle.chaos_lab.specs.declared.side.Side.TheVariants.{A}
 use Rattle.chaos_net.specs.Net.{Name, Story}
 use Rattle.chaos_net.specs.Present.{read_of, written_of}
-use Rattle.chaosd_copy.specs.Copy.{logged_in}
-use Rattle.chaos_filelab.specs.Bodies.{data_bodies}
+use Rattle.file_copy.specs.Copy.{logged_in}
+use Rattle.file_lab.specs.Bodies.{data_bodies}
 use Rattle.file_net.specs.History.{Transaction, Service, new_service, after_all, commands_by, replies_to}
 use Rattle.file_net.specs.FileNet.{FileNet, FileEvent, FileRun, FileReached, IsServedBy}
 use Rattle.file_net.specs.Copies.{IsClient, IsReady}
-use Rattle.chaos_filelab.proofs.BodyLists.{begins_split}
+use Rattle.file_lab.proofs.BodyLists.{begins_split}
 use Rattle.file_net.proofs.Lists.{commands_append}
 use Rattle.file_net.proofs.Kept.{file_net, histories_grow}
 use Rattle.file_net.proofs.Parts.{after_append, as_many, head_eq, silent, tail_eq}

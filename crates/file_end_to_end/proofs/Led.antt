@@ -18,13 +18,13 @@ use Rattle.chaos_lab.specs.Machine.{other}
 use Rattle.chaos_net.specs.Net.{Sent, Net, IsOwn, after_events}
 use Rattle.chaos_net.specs.Net as net
 use Rattle.chaos_net.specs.Net.NetEvent.{At, Arrives}
-use Rattle.chaos_turn.specs.Arrive.{Arrival, deliver_effect}
-use Rattle.chaos_turn.specs.Phase.{Effect, and_then, effect_of, no_effect_on, over_packets, over_slots}
-use Rattle.chaos_turn.specs.Slots.{tick_at}
-use Rattle.chaos_system.specs.Come.{Upon, AreFresh, AreSent, ComeFrom, ComeFresh, coming}
-use Rattle.chaos_system.specs.Made.{packets_sent}
-use Rattle.chaos_system.proofs.Coming.{tick_made}
-use Rattle.chaos_system.proofs.Made.{copy_made, effect_at, own_made, packets_both}
+use Rattle.chaos_node.specs.Arrive.{Arrival, deliver_effect}
+use Rattle.chaos_node.specs.Phase.{Effect, and_then, effect_of, no_effect_on, over_packets, over_slots}
+use Rattle.chaos_node.specs.Slots.{tick_at}
+use Rattle.chaos_net.specs.Come.{Upon, AreFresh, AreSent, ComeFrom, ComeFresh, coming}
+use Rattle.chaos_net.specs.MadeTurns.{packets_sent}
+use Rattle.chaos_net.proofs.SystemComing.{tick_made}
+use Rattle.chaos_net.proofs.Made.{copy_made, effect_at, own_made, packets_both}
 use Rattle.file_server.specs.Arrive.{accept_by, arrive_at_server, greet, request_in}
 use Rattle.file_server.specs.Sessions.{Serving, serving_at}
 use Rattle.file_server.specs.Slots.{close_at, close_by, close_for, end_phases, is_late, is_over_in, release_at, release_by}

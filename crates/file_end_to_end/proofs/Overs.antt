@@ -1,16 +1,17 @@
--- What a call's contract says of a copy, in all worlds.
+-- What a client's contract says of a copy, in all worlds.
 use Rattle.std.proofs.Common.{◌≡◌, ℕ, zero, suc, List, Option, ap, ◌∙◌}
 use Rattle.std.specs.Prelude.{Result, Ok, Err}
 use Rattle.chaos_link.specs.Link.{Ask, QueueView}
 use Rattle.chaos_file.specs.Store.{Files}
 use Rattle.chaos_net.specs.Net.{Name}
-use Rattle.chaosd_io.specs.declared.fault.RunFault.{RunFault}
-use Rattle.chaosd_copy.specs.declared.end.CopyEnd.{CopyEnd}
-use Rattle.chaosd_copy.specs.declared.end.CopyEnd.TheVariants as e
-use Rattle.chaosd_copy.specs.Ends.{IfDone}
+use Rattle.chaos_node.specs.declared.fault.NodeFault.{NodeFault}
+use Rattle.file_copy.specs.declared.end.CopyEnd.{CopyEnd}
+use Rattle.file_copy.specs.declared.end.CopyEnd.TheVariants as e
+use Rattle.file_copy.specs.Ends.{IfDone}
 use Rattle.file_client.specs.Pace.{Pace}
 use Rattle.file_client.specs.Talk.{Talker, Step, Says, Told, talk_of}
-use Rattle.file_client.specs.declared.call.Call.{Call}
+use Rattle.file_client.specs.declared.client.Client.{Client}
+use Rattle.file_client.specs.declared.clock_driver.ClockDriver.{ClockDriver}
 use Rattle.file_net.specs.FileNet.{FileNet}
 use Rattle.file_net.specs.Copies.{Copy, commands_of, replies_of}
 use Rattle.file_end_to_end.specs.Over.{CopiesInWorlds, IsCopiedBy, engine_of, pace_of}
@@ -47,9 +48,9 @@ copied_by m p Asked first last copy says f a c w g served same user idle can =
 
 pub copies_in_worlds : {C L S : Type 0} (shows : C → ℕ → Type 0) (queue : L → Option QueueView)
     (asked : L → L → List Ask → Type 0) (contents : S → Option Files)
-    (may_give : S → List ℕ → ℕ → List ℕ → Type 0) (count : S → ℕ) (old new : Call C L) (copy : Copy)
-    → Told (pace_of shows old) (asked new.turns.link.now old.turns.link.now) (engine_of queue old) old.client.now
-    (record { sent = commands_of copy; received = replies_of copy }) (engine_of queue new) new.client.now
+    (may_give : S → List ℕ → ℕ → List ℕ → Type 0) (count : S → ℕ) (old new : Client (ClockDriver C L)) (copy : Copy)
+    → Told (pace_of shows old) (asked new.driver.link.now old.driver.link.now) (engine_of queue old) old.host.now.now
+    (record { sent = commands_of copy; received = replies_of copy }) (engine_of queue new) new.host.now.now
     → CopiesInWorlds shows queue asked contents may_give count old new copy
 copies_in_worlds {C} {L} {S} shows queue asked contents may_give count old new copy told shown =
     let p = pace_of shows old in
@@ -57,11 +58,11 @@ copies_in_worlds {C} {L} {S} shows queue asked contents may_give count old new c
       says,
       λ m k w f a c stands calling first none.
           weaker contents may_give count m p (IsServed m f a c) (IsCopiedBy m says.talks.steps copy f a c)
-          (λ t g served. copied_by m p (asked new.turns.link.now old.turns.link.now) (engine_of queue old) (engine_of queue new) copy says f a c t g served) k w f
+          (λ t g served. copied_by m p (asked new.driver.link.now old.driver.link.now) (engine_of queue old) (engine_of queue new) copy says f a c t g served) k w f
           (worlds_last contents may_give count m p k w f a c stands calling none),
     )
 
-pub done_then : (end : Result CopyEnd RunFault) (P Q : Type 0) → (P → Q) → IfDone end P → IfDone end Q
+pub done_then : (end : Result CopyEnd NodeFault) (P Q : Type 0) → (P → Q) → IfDone end P → IfDone end Q
 done_then (Ok e.Done) P Q f p = f p
 done_then (Ok (e.Refused reply)) P Q f p = tt
 done_then (Ok (e.Strange reply)) P Q f p = tt

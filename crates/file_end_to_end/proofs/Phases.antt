@@ -9,13 +9,13 @@ use Rattle.chaos_host.specs.View.{id_at}
 use Rattle.chaos_lab.specs.declared.side.Side.{Side}
 use Rattle.chaos_net.specs.Net.{Net, after_events, happens}
 use Rattle.chaos_net.specs.Net.NetEvent.{At, Arrives}
-use Rattle.chaos_turn.specs.Arrive.{Arrival, deliver_effect}
-use Rattle.chaos_turn.specs.Phase.{and_then, effect_of, no_effect_on, over_slots}
-use Rattle.chaos_turn.specs.Slots.{tick_at}
-use Rattle.chaos_system.specs.Come.{ComeFrom, ComeFresh}
-use Rattle.chaos_system.specs.Made.{IsMade, Makes}
-use Rattle.chaos_system.proofs.Made.{both_made, copy_made, none_made, own_made, then_made}
-use Rattle.chaos_system.proofs.Coming.{MadeOfEach, packets_made, slots_made, ticks_made}
+use Rattle.chaos_node.specs.Arrive.{Arrival, deliver_effect}
+use Rattle.chaos_node.specs.Phase.{and_then, effect_of, no_effect_on, over_slots}
+use Rattle.chaos_node.specs.Slots.{tick_at}
+use Rattle.chaos_net.specs.Come.{ComeFrom, ComeFresh}
+use Rattle.chaos_net.specs.MadeTurns.{IsMade, Makes}
+use Rattle.chaos_net.proofs.Made.{both_made, copy_made, none_made, own_made, then_made}
+use Rattle.chaos_net.proofs.SystemComing.{MadeOfEach, packets_made, slots_made, ticks_made}
 use Rattle.file_server.specs.Arrive.{accept_by, arrive_at_server, greet, request_in}
 use Rattle.file_server.specs.Sessions.{Serving, serving_at}
 use Rattle.file_server.specs.Slots.{close_at, close_by, close_for, end_phases, is_late, is_over_in, release_at, release_by}

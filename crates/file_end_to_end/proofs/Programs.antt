@@ -3,18 +3,18 @@ use Rattle.std.proofs.Common.{ℕ, Bool, ◌∷◌, List, Option, Some, None, Ok
 use Rattle.chaos_packet.specs.Packet.{PacketView}
 use Rattle.chaos_link.specs.declared.carriage.Carriage.{Carriage}
 use Rattle.chaos_link.specs.Link.{Addressed, Ask}
-use Rattle.chaos_turn.specs.Arrive.{Arrival}
-use Rattle.chaos_turn.specs.Link.{datagrams_of, sent_by, turn_asks}
-use Rattle.chaos_turn.specs.Phase.{Effect}
-use Rattle.chaos_turn.specs.Turn.{client_phases}
-use Rattle.chaos_system.specs.Queue.{IsAskedToPost}
-use Rattle.chaos_system.specs.System.{Hands, handed}
-use Rattle.chaos_system.proofs.Queue.{same_phases}
+use Rattle.chaos_node.specs.Arrive.{Arrival}
+use Rattle.chaos_node.specs.Link.{datagrams_of, sent_by, turn_asks}
+use Rattle.chaos_node.specs.Phase.{Effect}
+use Rattle.chaos_node.specs.Turn.{client_phases}
+use Rattle.chaos_net.specs.Queue.{IsAskedToPost}
+use Rattle.chaos_net.specs.System.{Hands, handed}
+use Rattle.chaos_net.proofs.Queue.{same_phases}
 use Rattle.file_server.specs.Server.{Server}
 use Rattle.file_server.specs.Turn.{IsTurn}
 use Rattle.chaos_file.specs.Store.{StoreChange}
-use Rattle.chaos_system.specs.Turns.{TurnsAreRuns}
-use Rattle.chaos_system.proofs.Client.{client_turns_are_runs}
+use Rattle.chaos_net.specs.Turns.{TurnsAreRuns}
+use Rattle.chaos_net.proofs.ClientTurns.{client_turns_are_runs}
 use Rattle.file_end_to_end.specs.Program.{Client, Serves, program_host, program_turns, program_upon, ClientTurnsAreSteps, ServerTurnsAreSteps}
 use Rattle.file_end_to_end.proofs.Server.{server_turns_are_runs}
 

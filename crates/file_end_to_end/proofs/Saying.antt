@@ -18,10 +18,10 @@ use Rattle.chaos_net.specs.Net.{Name, is_name}
 use Rattle.chaos_net.specs.Net.NetEvent.{At, Arrives}
 use Rattle.chaos_net.specs.Present.{named, read_of, written_of}
 use Rattle.chaos_net.proofs.Next.{same_name}
-use Rattle.chaosd_copy.specs.Talk.{received_in}
+use Rattle.file_copy.specs.Talk.{received_in}
 use Rattle.file_client.specs.Calls.{call_by, is_wrote, data_read}
 use Rattle.file_client.specs.Talk.{Talker, Talk, Step, Calls as Asks, Writes, Reads, Turns, and_then, command_item}
-use Rattle.chaos_filelab.specs.Bodies.{with_body, data_bodies}
+use Rattle.file_lab.specs.Bodies.{with_body, data_bodies}
 use Rattle.file_net.specs.FileNet.{FileNet, FileEvent, Nets, Serves, FileRun, FileReached, file_happens, is_item_call}
 use Rattle.file_net.specs.Users.{item_taken, item_given, said_at, heard_at, said_in, heard_in}
 use Rattle.file_net.proofs.Users.{users_are_told}

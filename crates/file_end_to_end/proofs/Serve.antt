@@ -15,10 +15,10 @@ use Rattle.chaos_net.specs.Net.{Name, Story, Sent, Net, index_of, present}
 use Rattle.chaos_net.specs.Present.{named}
 use Rattle.chaos_net.proofs.Lists.{some_eq}
 use Rattle.chaos_net.proofs.Network.{reached_is_played}
-use Rattle.chaos_serve.specs.Host.{DoesWorkInSlot}
-use Rattle.chaos_serve.specs.declared.served.Served.{Served}
-use Rattle.chaos_turn.specs.Phase.{Effect}
-use Rattle.chaos_system.specs.Made.{packets_sent}
+use Rattle.chaos_file.specs.ServeHost.{DoesWorkInSlot}
+use Rattle.chaos_file.specs.declared.served.Served.{Served}
+use Rattle.chaos_node.specs.Phase.{Effect}
+use Rattle.chaos_net.specs.MadeTurns.{packets_sent}
 use Rattle.file_server.specs.Serve.{IsServedAt, ServesPlace, ServesSlots, SessionServes, serving_after}
 use Rattle.file_server.specs.Server.{Server}
 use Rattle.file_server.specs.Sessions.{Serving, serving_at, serving_of}

@@ -6,10 +6,10 @@ use Rattle.chaos_lab.specs.declared.side.Side.{Side}
 use Rattle.chaos_link.specs.Link.{Ask}
 use Rattle.chaos_link.specs.Loads.{packets_of}
 use Rattle.chaos_net.specs.Net.{Net}
-use Rattle.chaos_turn.specs.Arrive.{Arrival}
-use Rattle.chaos_system.specs.Come.{ComeFrom, ComeFresh}
-use Rattle.chaos_system.specs.Made.{Makes}
-use Rattle.chaos_system.proofs.Made.{both_made}
+use Rattle.chaos_node.specs.Arrive.{Arrival}
+use Rattle.chaos_net.specs.Come.{ComeFrom, ComeFresh}
+use Rattle.chaos_net.specs.MadeTurns.{Makes}
+use Rattle.chaos_net.proofs.Made.{both_made}
 use Rattle.file_server.specs.Arrive.{arrive_at_server}
 use Rattle.file_server.specs.Server.{Server, with_host}
 use Rattle.file_server.specs.Slots.{end_phases}

@@ -19,19 +19,19 @@ use Rattle.chaos_lab.specs.declared.side.Side.{Side}
 use Rattle.chaos_link.specs.Loads.{packets_of}
 use Rattle.chaos_net.specs.Net.{Net, happens}
 use Rattle.chaos_net.specs.Net.NetEvent.{At}
-use Rattle.chaos_serve.specs.Calls.{after_eof_at, after_reply_at, reply_write_at}
-use Rattle.chaos_serve.specs.Host.{DoesWorkInSlot, in_slot}
-use Rattle.chaos_serve.specs.Serve.{DoesWork}
-use Rattle.chaos_serve.specs.Work.{Work, NotOpen, Nothing, Full, LastItem, Command, work_by, work_of}
-use Rattle.chaos_serve.specs.declared.served.Served.{Served}
-use Rattle.chaos_serve.specs.declared.served.Served.TheVariants as told
-use Rattle.chaos_serve.proofs.Slots.{finished_in, quiet_in, replied_in}
-use Rattle.chaos_turn.specs.Phase.{Effect}
+use Rattle.chaos_file.specs.ServeCalls.{after_eof_at, after_reply_at, reply_write_at}
+use Rattle.chaos_file.specs.ServeHost.{DoesWorkInSlot, in_slot}
+use Rattle.chaos_file.specs.Serve.{DoesWork}
+use Rattle.chaos_file.specs.ServeWork.{Work, NotOpen, Nothing, Full, LastItem, Command, work_by, work_of}
+use Rattle.chaos_file.specs.declared.served.Served.{Served}
+use Rattle.chaos_file.specs.declared.served.Served.TheVariants as told
+use Rattle.chaos_file.proofs.ServeSlots.{finished_in, quiet_in, replied_in}
+use Rattle.chaos_node.specs.Phase.{Effect}
 use Rattle.file_server.specs.Serve.{IsServedAt, ServesPlace, ServesSlots, SessionServes, serving_after}
 use Rattle.file_server.specs.Server.{Server}
 use Rattle.file_server.specs.Sessions.{Serving, serving_at, serving_of}
-use Rattle.chaos_system.specs.Made.{IsMade, Makes, packets_sent}
-use Rattle.chaos_system.proofs.Made.{both_made, none_made, own_made, effect_at}
+use Rattle.chaos_net.specs.MadeTurns.{IsMade, Makes, packets_sent}
+use Rattle.chaos_net.proofs.Made.{both_made, none_made, own_made, effect_at}
 
 -- ---- another way to tell what was made
 
@@ -91,7 +91,7 @@ open_by : (state : State) (front : Option ItemView) (room : Bool) (body : List �
 open_by state front room body e = by (is_open state) refl e
   where
     by : (b : Bool) → is_open state ≡ b
-        → (if b then Rattle.chaos_serve.specs.Work.work_at_front front room else NotOpen state) ≡ Command body
+        → (if b then Rattle.chaos_file.specs.ServeWork.work_at_front front room else NotOpen state) ≡ Command body
         → b ≡ true
     by true is e = refl
     by false is e = absurd (cc)

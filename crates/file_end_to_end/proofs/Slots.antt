@@ -14,7 +14,7 @@ use Rattle.chaos_net.specs.Played.{IsStation}
 use Rattle.chaos_net.specs.Present.{read_of}
 use Rattle.file_server.specs.Sessions.{Serving, new_serving, serving_at, serving_by, serving_of, without_files}
 use Rattle.file_server.specs.Slots.{given_back, given_back_at}
-use Rattle.chaos_filelab.specs.Bodies.{data_bodies}
+use Rattle.file_lab.specs.Bodies.{data_bodies}
 use Rattle.file_net.specs.History.{new_service}
 use Rattle.file_net.specs.FileNet.{FileNet}
 use Rattle.file_net.proofs.Kept.{IsSound}

@@ -19,8 +19,8 @@ use Rattle.chaos_net.proofs.Lasting.{stories_last}
 use Rattle.chaos_net.proofs.Network.{reached_is_played}
 use Rattle.chaos_net.proofs.Standing.{reached_on}
 use Rattle.chaos_packet.specs.Opcode.{op_data}
-use Rattle.chaos_serve.specs.Work.{Work, NotOpen, Nothing as Idle, Full, LastItem, Command}
-use Rattle.chaos_serve.specs.Calls.{work_at}
+use Rattle.chaos_file.specs.ServeWork.{Work, NotOpen, Nothing as Idle, Full, LastItem, Command}
+use Rattle.chaos_file.specs.ServeCalls.{work_at}
 use Rattle.file_server.specs.Sessions.{Serving}
 use Rattle.file_net.specs.History.{Way}
 use Rattle.file_net.specs.FileNet.{FileNet, FileEvent, Nets, Serves, FileRun, after_reading, served_by, transaction_of, file_happens}

@@ -15,15 +15,15 @@ use Rattle.chaos_link.specs.Link.{Addressed}
 use Rattle.chaos_link.specs.Loads.{packets_of}
 use Rattle.chaos_net.specs.Net.{Name, Story, Net, IsNew, new_station}
 use Rattle.chaos_net.specs.Net.NetEvent.{At}
-use Rattle.chaos_turn.specs.Arrive.{Arrival}
-use Rattle.chaos_turn.specs.Link.{read_all}
-use Rattle.chaos_turn.specs.Turn.{client_phases}
-use Rattle.chaos_system.specs.Come.{ComeFresh}
-use Rattle.chaos_system.specs.Made.{packets_sent}
-use Rattle.chaos_system.specs.System.{Seat, System, Step, TakesTurn, TakesCall, Steps, IsFreshStep, handed, numbers_of}
-use Rattle.chaos_system.specs.System.Step.{Turn, Calls}
-use Rattle.chaos_system.proofs.Behind.{at_both, comes_from, posted}
-use Rattle.chaos_system.proofs.Made.{effect_at}
+use Rattle.chaos_node.specs.Arrive.{Arrival}
+use Rattle.chaos_node.specs.Link.{read_all}
+use Rattle.chaos_node.specs.Turn.{client_phases}
+use Rattle.chaos_net.specs.Come.{ComeFresh}
+use Rattle.chaos_net.specs.MadeTurns.{packets_sent}
+use Rattle.chaos_net.specs.System.{Seat, System, Step, TakesTurn, TakesCall, Steps, IsFreshStep, handed, numbers_of}
+use Rattle.chaos_net.specs.System.Step.{Turn, Calls}
+use Rattle.chaos_net.proofs.Behind.{at_both, comes_from, posted}
+use Rattle.chaos_net.proofs.Made.{effect_at}
 use Rattle.file_server.specs.Sessions.{Serving, serving_at}
 use Rattle.file_end_to_end.specs.Program.{Program, Client, Serves, program_host, program_turns, program_upon}
 use Rattle.file_net.specs.FileNet.{FileNet, FileEvent, Nets, FileRun, FileReached, new_file_net, file_happens}

@@ -8,10 +8,10 @@ use Rattle.chaos_link.specs.Loads.{packets_of}
 use Rattle.chaos_lab.specs.declared.side.Side.TheVariants.{A, B}
 use Rattle.chaos_net.specs.Net.{index_of, present}
 use Rattle.chaos_net.proofs.Network.{reached_is_played}
-use Rattle.chaos_turn.specs.Arrive.{Arrival}
-use Rattle.chaos_turn.specs.Phase.{Effect}
-use Rattle.chaos_system.specs.Come.{ComeFrom, ComeFresh}
-use Rattle.chaos_system.specs.Made.{packets_sent}
+use Rattle.chaos_node.specs.Arrive.{Arrival}
+use Rattle.chaos_node.specs.Phase.{Effect}
+use Rattle.chaos_net.specs.Come.{ComeFrom, ComeFresh}
+use Rattle.chaos_net.specs.MadeTurns.{packets_sent}
 use Rattle.file_server.specs.Arrive.{arrive_at_server}
 use Rattle.file_server.specs.Server.{Server, with_host}
 use Rattle.file_server.specs.Sessions.{Serving, serving_at}

@@ -22,19 +22,19 @@ use Rattle.chaos_link.specs.Loads.{packets_of}
 use Rattle.chaos_net.specs.Net.{Name, Story, IsNew, IsOwn, index_of}
 use Rattle.chaos_net.specs.Net.NetEvent.{At, Arrives}
 use Rattle.chaos_net.proofs.Hello.{usual}
-use Rattle.chaos_serve.specs.Work.{Command}
-use Rattle.chaos_system.specs.Made.{packets_sent}
-use Rattle.chaos_system.specs.System.{IsFreshStep, IsNewSeat, Seat, Step, Steps, System, Turn, Calls, handed}
-use Rattle.chaos_turn.specs.Link.{read_all, sent_by}
-use Rattle.chaos_turn.specs.Phase.{Effect}
-use Rattle.chaos_turn.specs.Turn.{client_phases}
+use Rattle.chaos_file.specs.ServeWork.{Command}
+use Rattle.chaos_net.specs.MadeTurns.{packets_sent}
+use Rattle.chaos_net.specs.System.{IsFreshStep, IsNewSeat, Seat, Step, Steps, System, Turn, Calls, handed}
+use Rattle.chaos_node.specs.Link.{read_all, sent_by}
+use Rattle.chaos_node.specs.Phase.{Effect}
+use Rattle.chaos_node.specs.Turn.{client_phases}
 use Rattle.file_server.specs.Arrive.{arrive_at_server}
 use Rattle.file_server.specs.Server.{Server, server, with_host}
 use Rattle.file_server.specs.Sessions.{Serving, new_serving, serving_at}
 use Rattle.file_net.specs.FileNet.{FileNet, FileEvent, Nets, Serves as IsServed, FileRun, FileReached, file_happens, new_file_net}
 use Rattle.file_net.specs.History.{AsDefined}
 use Rattle.file_net.specs.Short.{after_file_events, first_of, two_hosts}
-use Rattle.chaos_filelab.specs.Bodies.{data_bodies}
+use Rattle.file_lab.specs.Bodies.{data_bodies}
 use Rattle.chaos_net.specs.Present.{read_of}
 use Rattle.file_net.proofs.Kept.{reached_is_sound}
 use Rattle.file_net.proofs.Short.{short_file_run}

@@ -27,22 +27,22 @@ use Rattle.chaos_net.proofs.Lasting.{stories_last}
 use Rattle.chaos_net.proofs.Lists.{some_eq}
 use Rattle.chaos_net.proofs.Network.{reached_is_played}
 use Rattle.chaos_net.proofs.Present.{named_is_present}
-use Rattle.chaos_system.specs.System.{TakesCall, TakesTurn, handed}
-use Rattle.chaos_turn.specs.Link.{datagrams_of, sent_by}
-use Rattle.chaos_turn.specs.Station.{station}
-use Rattle.chaos_turn.specs.Turn.{client_phases}
-use Rattle.chaosd_copy.specs.Ends.{login_command, login_reply}
+use Rattle.chaos_net.specs.System.{TakesCall, TakesTurn, handed}
+use Rattle.chaos_node.specs.Link.{datagrams_of, sent_by}
+use Rattle.chaos_node.specs.Station.{station}
+use Rattle.chaos_node.specs.Turn.{client_phases}
+use Rattle.file_copy.specs.Ends.{login_command, login_reply}
 use Rattle.file_client.specs.Calls.{call_by}
 use Rattle.file_client.specs.Caller.{CallerView, after_call, asked_again, has_asked, is_asking}
 use Rattle.file_client.specs.Pace.{Pace}
 use Rattle.file_client.specs.Talk.{Step, Calls as Asks, Writes, Reads, Turns, talk_of}
-use Rattle.chaos_filelab.specs.Bodies.{data_bodies}
+use Rattle.file_lab.specs.Bodies.{data_bodies}
 use Rattle.file_net.specs.FileNet.{FileNet, FileEvent, Nets, FileRun, FileReached, file_happens}
 use Rattle.file_net.specs.Users.{said_in, heard_in}
 use Rattle.file_net.specs.Copies.{IsClient, IsReady, Talks, commands_of, replies_of}
 use Rattle.file_net.proofs.Clients.{copy_alike, copy_among, login_among}
 use Rattle.file_net.proofs.Kept.{IsSound, event_keeps, reached_is_sound}
-use Rattle.chaos_filelab.proofs.BodyLists.{bodies_append}
+use Rattle.file_lab.proofs.BodyLists.{bodies_append}
 use Rattle.file_net.proofs.Users.{users_are_told}
 use Rattle.file_end_to_end.specs.Program.{Client, Serves, program_host, program_turns}
 use Rattle.file_end_to_end.specs.System.{FileStandsFor}

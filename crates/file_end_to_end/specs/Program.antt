@@ -5,17 +5,17 @@
 use Rattle.std.specs.Prelude.{◌≡◌, ℕ, Bool, List, [], ◌∷◌, ◌++◌, Option}
 use Rattle.chaos_file.specs.Store.{StoreChange}
 use Rattle.chaos_host.specs.View.{HostView}
-use Rattle.chaos_system.specs.Come.{Upon, nothing_upon}
-use Rattle.chaos_system.specs.Turns.{Turns, client_turns}
+use Rattle.chaos_net.specs.Come.{Upon, nothing_upon}
+use Rattle.chaos_net.specs.Turns.{Turns, client_turns}
 use Rattle.chaos_host.specs.declared.answers.HostDelivered.{HostDelivered}
 use Rattle.chaos_link.specs.declared.carriage.Carriage.{Carriage}
 use Rattle.chaos_link.specs.Link.{Addressed, Ask}
-use Rattle.chaos_system.specs.Queue.{IsAskedToPost}
-use Rattle.chaos_system.specs.System.{Hands, Seat, TakesTurn, handed}
-use Rattle.chaos_turn.specs.Link.{sent_by}
-use Rattle.chaos_turn.specs.Station.{Station}
-use Rattle.chaos_turn.specs.Turn.{RunsClientTurn, client_phases}
-use Rattle.chaos_turn.specs.declared.end.TurnEnd.{TurnEnd}
+use Rattle.chaos_net.specs.Queue.{IsAskedToPost}
+use Rattle.chaos_net.specs.System.{Hands, Seat, TakesTurn, handed}
+use Rattle.chaos_node.specs.Link.{sent_by}
+use Rattle.chaos_node.specs.Station.{Station}
+use Rattle.chaos_node.specs.Turn.{RunsClientTurn, client_phases}
+use Rattle.chaos_node.specs.declared.end.TurnEnd.{TurnEnd}
 use Rattle.file_server.specs.Server.{Server}
 use Rattle.file_server.specs.Turn.{RunsTurn}
 use Rattle.file_end_to_end.specs.Turns.{accepts_upon, server_turns}

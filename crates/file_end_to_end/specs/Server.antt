@@ -10,9 +10,9 @@ use Rattle.chaos_file.specs.Store.{Files, change}
 use Rattle.chaos_lab.specs.declared.side.Side.TheVariants.{A, B}
 use Rattle.chaos_link.specs.Loads.{packets_of}
 use Rattle.chaos_net.specs.Net.{Name, Story, index_of}
-use Rattle.chaos_turn.specs.Arrive.{Arrival}
-use Rattle.chaos_system.specs.Come.{ComeFrom, ComeFresh}
-use Rattle.chaos_system.specs.Made.{packets_sent}
+use Rattle.chaos_node.specs.Arrive.{Arrival}
+use Rattle.chaos_net.specs.Come.{ComeFrom, ComeFresh}
+use Rattle.chaos_net.specs.MadeTurns.{packets_sent}
 use Rattle.file_server.specs.Server.{Server}
 use Rattle.file_server.specs.Sessions.{Serving, serving_at}
 use Rattle.file_end_to_end.specs.Turns.{accepts_upon, server_turns}

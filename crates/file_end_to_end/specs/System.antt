@@ -16,13 +16,13 @@ use Rattle.chaos_file.specs.Store.{Files, change}
 use Rattle.chaos_host.specs.Deeds.HostEvent.{Listens}
 use Rattle.chaos_lab.specs.declared.side.Side.{Side}
 use Rattle.chaos_lab.specs.declared.side.Side.TheVariants.{A, B}
-use Rattle.chaos_system.specs.System.{System, Step, Steps, IsFreshStep, IsNewSeat, StandsFor}
-use Rattle.chaos_system.specs.System.Step.{Turn, Calls}
+use Rattle.chaos_net.specs.System.{System, Step, Steps, IsFreshStep, IsNewSeat, StandsFor}
+use Rattle.chaos_net.specs.System.Step.{Turn, Calls}
 use Rattle.file_server.specs.Server.{Server}
 use Rattle.file_server.specs.Sessions.{serving_at}
 use Rattle.file_end_to_end.specs.Program.{Program, Client, Serves, program_host, program_turns, program_upon}
 use Rattle.file_net.specs.FileNet.{FileNet, FileEvent, FileRun, FileReached, HasOneHistory, ClientsAreServed}
-use Rattle.chaosd_copy.specs.Ends.{login_command, login_reply}
+use Rattle.file_copy.specs.Ends.{login_command, login_reply}
 use Rattle.chaos_net.specs.Net.{Name, Story}
 use Rattle.file_net.specs.Copies as copy
 use Rattle.file_net.specs.Copies.{Talks, Copy, all_commands, all_replies, CanDoAll, AreCopied}

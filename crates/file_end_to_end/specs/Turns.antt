@@ -13,11 +13,11 @@ use Rattle.chaos_lab.specs.declared.side.Side.{Side}
 use Rattle.chaos_link.specs.declared.carriage.Carriage.{Carriage}
 use Rattle.chaos_link.specs.Link.{Ask}
 use Rattle.chaos_net.specs.Net.{Net}
-use Rattle.chaos_turn.specs.Station.{Station}
-use Rattle.chaos_turn.specs.declared.end.TurnEnd.{TurnEnd}
-use Rattle.chaos_system.specs.Come.{Upon, ComeFrom, ComeFresh}
-use Rattle.chaos_system.specs.Made.{Makes}
-use Rattle.chaos_system.specs.Turns.{Turns, TurnsAreRuns}
+use Rattle.chaos_node.specs.Station.{Station}
+use Rattle.chaos_node.specs.declared.end.TurnEnd.{TurnEnd}
+use Rattle.chaos_net.specs.Come.{Upon, ComeFrom, ComeFresh}
+use Rattle.chaos_net.specs.MadeTurns.{Makes}
+use Rattle.chaos_net.specs.Turns.{Turns, TurnsAreRuns}
 use Rattle.file_server.specs.Arrive.{request_in}
 use Rattle.file_server.specs.Server.{Server}
 use Rattle.file_server.specs.Turn.{IsTurn, RunsTurn}

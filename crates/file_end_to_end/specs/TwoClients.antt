@@ -30,12 +30,12 @@ use Rattle.chaos_host.specs.View.{new_host}
 use Rattle.chaos_lab.specs.declared.side.Side.{Side}
 use Rattle.chaos_lab.specs.declared.side.Side.TheVariants.{A, B}
 use Rattle.chaos_net.specs.Present.{read_of}
-use Rattle.chaos_system.specs.Made.{packets_sent}
-use Rattle.chaos_turn.specs.Link.{read_all}
-use Rattle.chaos_system.specs.System.{System, Step, Turn, Calls, Steps, IsFreshStep, IsNewSeat}
+use Rattle.chaos_net.specs.MadeTurns.{packets_sent}
+use Rattle.chaos_node.specs.Link.{read_all}
+use Rattle.chaos_net.specs.System.{System, Step, Turn, Calls, Steps, IsFreshStep, IsNewSeat}
 use Rattle.file_server.specs.Server.{server}
 use Rattle.file_server.specs.Sessions.{new_serving}
-use Rattle.chaos_filelab.specs.Bodies.{data_bodies}
+use Rattle.file_lab.specs.Bodies.{data_bodies}
 use Rattle.file_net.specs.FileNet.{FileNet, FileEvent, FileRun, FileReached, new_file_net}
 use Rattle.file_net.specs.History.{AsDefined}
 use Rattle.file_net.specs.Short.{first_of, two_hosts}

@@ -24,11 +24,11 @@ use Rattle.chaos_link.specs.declared.carriage.Carriage.{Carriage}
 use Rattle.chaos_link.specs.Link.{Addressed, Ask, Send, Receive}
 use Rattle.chaos_net.specs.Net.{Name, Story}
 use Rattle.chaos_net.specs.Present.{named, read_of, written_of}
-use Rattle.chaos_turn.specs.Arrive.{Arrival}
-use Rattle.chaos_system.specs.Come.{ComeFresh, nothing_upon}
-use Rattle.chaos_system.specs.System.{Hands, Seat, System, TakesTurn, handed, numbers_of}
-use Rattle.chaosd_copy.specs.Copy.{logged_in}
-use Rattle.chaosd_copy.specs.Ends.{login_command, login_reply}
+use Rattle.chaos_node.specs.Arrive.{Arrival}
+use Rattle.chaos_net.specs.Come.{ComeFresh, nothing_upon}
+use Rattle.chaos_net.specs.System.{Hands, Seat, System, TakesTurn, handed, numbers_of}
+use Rattle.file_copy.specs.Copy.{logged_in}
+use Rattle.file_copy.specs.Ends.{login_command, login_reply}
 use Rattle.file_client.specs.Caller.{CallerView, asked, closed, new_caller}
 use Rattle.file_client.specs.Pace.{Pace}
 use Rattle.file_client.specs.Talk.{Talker, Step, Calls as Asks, Turns, Does, command_item, talk_of}
@@ -36,7 +36,7 @@ use Rattle.file_server.specs.Server.{Server, server}
 use Rattle.file_server.specs.Service.{listening_host}
 use Rattle.file_server.specs.Sessions.{new_serving}
 use Rattle.file_server.specs.declared.limits.TheConstants.{SERVER_CONNS}
-use Rattle.chaos_filelab.specs.Bodies.{data_bodies}
+use Rattle.file_lab.specs.Bodies.{data_bodies}
 use Rattle.file_net.specs.FileNet.{FileNet, FileEvent, FileRun}
 use Rattle.file_net.specs.Copies.{Copy, CanDo, IsClient, IsCopied, commands_of, replies_of}
 use Rattle.file_end_to_end.specs.Program.{Program, Client, Serves}

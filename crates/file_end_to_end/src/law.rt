@@ -3,7 +3,7 @@
 //! call.
 ghost use Rattle.chaos_file.specs.Store.{Files, change};
 ghost use Rattle.chaos_link.specs.Link.{Asks};
-ghost use Rattle.chaos_system.specs.System.{NewSystemsStand, SystemsHold, SystemsStay};
+ghost use Rattle.chaos_net.specs.System.{NewSystemsStand, SystemsHold, SystemsStay};
 ghost use Rattle.file_client.specs.declared.timing.Timing.{Timing};
 ghost use Rattle.file_client.specs.Pace.{clock_pace};
 ghost use Rattle.file_end_to_end.specs.Program.{ClientTurnsAreSteps, Program, ServerTurnsAreSteps, program_host, program_turns, program_upon};
@@ -16,7 +16,7 @@ ghost use Rattle.file_end_to_end.specs.World.{ConnectionsAreAsked, ConnectionsOp
 use chaos_file::Store;
 use chaos_link::Link;
 use chaos_net::law_network;
-use chaosd_clock::Dial;
+use chaos_node::Dial;
 
 /// The law of the turns of a server, on the network. Let the other host have sent each packet that
 /// came, and let each packet be fresh.

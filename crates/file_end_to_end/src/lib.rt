@@ -4,7 +4,7 @@
 //!
 //! The laws have these premises, and promise nothing of progress or of time:
 //!
-//! - The premises of chaos_system. Otherwise a stranger could log in as the client, and an old
+//! - The premises of chaos_net. Otherwise a stranger could log in as the client, and an old
 //!   packet could carry an old command.
 //! - The store keeps its files honestly, so it says what files it has: `MemStore` does, `DirStore`
 //!   does not. A disk may lose what was written to it.

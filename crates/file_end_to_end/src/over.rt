@@ -1,31 +1,30 @@
-//! A client puts and gets files over a call.
+//! A client puts and gets files.
 ghost use Rattle.std.specs.Prelude.{◌≡◌, ◌≤◌, [], length};
 ghost use Rattle.chaos_file.specs.declared.limits.TheConstants.{MAX_FILE, MAX_PATH};
-ghost use Rattle.chaosd_copy.specs.declared.limits.TheConstants.{MAX_FIRST};
-ghost use Rattle.chaosd_copy.specs.Ends.{IfDone, tids_from};
-ghost use Rattle.chaosd_copy.specs.Row.{file_handle};
+ghost use Rattle.file_copy.specs.declared.limits.TheConstants.{MAX_FIRST};
+ghost use Rattle.file_copy.specs.Ends.{IfDone, tids_from};
+ghost use Rattle.file_copy.specs.Row.{file_handle};
 ghost use Rattle.file_net.specs.Copies.{Get, Put};
 ghost use Rattle.file_end_to_end.specs.Over.{CopiesInWorlds};
 
 use chaos_file::Store;
 use chaos_link::Link;
-use chaosd_clock::Dial;
-use chaosd_copy::{CopyEnd, Observer, get_file, put_file};
-use chaosd_io::RunFault;
-use file_client::Call;
+use chaos_node::{Dial, NodeFault};
+use file_client::{Client, ClockDriver};
+use file_copy::{CopyEnd, Observer, get_file, put_file};
 
-/// Gets a file over a call, as [`get_file`] does. The contract says that there are steps of the
-/// engine from the call's state before to its state after; it doesn't say which steps.
+/// Gets a file by a client, as [`get_file`] does. The contract says that there are steps of the
+/// engine from the client's state before to its state after; it doesn't say which steps.
 ///
 /// # Errors
 /// The errors of [`get_file`].
 pub fn get_over<C: Dial, L: Link, S: Store, O: Observer>(
-    call: &mut Call<'_, C, L>,
+    call: &mut Client<'_, ClockDriver<'_, '_, C, L>>,
     first: u32,
     path: &[u8],
     bytes: &mut Vec<u8>,
     observer: &mut O,
-) -> Result<CopyEnd, RunFault>
+) -> Result<CopyEnd, NodeFault>
     requires first { first ≤ MAX_FIRST }
     requires path { length path.now ≤ MAX_PATH }
     requires empty { bytes.old.items ≡ [] }
@@ -39,17 +38,17 @@ pub fn get_over<C: Dial, L: Link, S: Store, O: Observer>(
     get_file(call, first, path, bytes, observer)
 }
 
-/// Puts a file over a call, as [`put_file`] does.
+/// Puts a file by a client, as [`put_file`] does.
 ///
 /// # Errors
 /// The errors of [`put_file`].
 pub fn put_over<C: Dial, L: Link, S: Store, O: Observer>(
-    call: &mut Call<'_, C, L>,
+    call: &mut Client<'_, ClockDriver<'_, '_, C, L>>,
     first: u32,
     path: &[u8],
     bytes: &[u8],
     observer: &mut O,
-) -> Result<CopyEnd, RunFault>
+) -> Result<CopyEnd, NodeFault>
     requires first { first ≤ MAX_FIRST }
     requires path { length path.now ≤ MAX_PATH }
     requires fits { length bytes.now ≤ MAX_FILE }

@@ -23,13 +23,13 @@ use Rattle.chaos_file.proofs.Spelling.{parsed_spelled}
 use Rattle.chaos_file.proofs.Replies.{replies_append}
 use Rattle.chaos_net.specs.Net.{Name, is_name as is_own}
 use Rattle.chaos_net.proofs.Next.{same_name}
-use Rattle.chaosd_copy.specs.Copy.{upto, chunk, chunk_count, reply_of, logged_in, Tids, CanCopy, put_front, put_reply, put_commands, put_replies, get_commands, get_replies}
-use Rattle.chaosd_copy.specs.Ends.{login_command, login_reply}
-use Rattle.chaosd_copy.proofs.Named.{logs_in_named, can_copy}
-use Rattle.chaosd_copy.proofs.Got.{got}
-use Rattle.chaosd_copy.proofs.Pieces.{piece_length}
-use Rattle.chaosd_copy.proofs.Steps.{good_of}
-use Rattle.chaosd_copy.proofs.Whole.{puts, gets, put_broken}
+use Rattle.file_copy.specs.Copy.{upto, chunk, chunk_count, reply_of, logged_in, Tids, CanCopy, put_front, put_reply, put_commands, put_replies, get_commands, get_replies}
+use Rattle.file_copy.specs.Ends.{login_command, login_reply}
+use Rattle.file_copy.proofs.Named.{logs_in_named, can_copy}
+use Rattle.file_copy.proofs.Got.{got}
+use Rattle.file_copy.proofs.Pieces.{piece_length}
+use Rattle.file_copy.proofs.Steps.{good_of}
+use Rattle.file_copy.proofs.Whole.{puts, gets, put_broken}
 use Rattle.file_net.specs.History.{Transaction, Service, AsDefined, reply_by, session_by, files_by, after_one, after_all, AreRight, commands_by, replies_to}
 use Rattle.file_net.specs.Copies.{LeavesFiles}
 use Rattle.file_net.proofs.Parts.{First, first_of, parts_of, replies_of_parts, head_eq, tail_eq, silent, is_same, is_apart, after_append, right_front, right_back}

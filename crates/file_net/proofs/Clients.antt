@@ -8,12 +8,12 @@ use Rattle.chaos_file.specs.Spelling.{spelling_of}
 use Rattle.chaos_file.specs.Store.{Files}
 use Rattle.chaos_net.specs.Net.{Name, Story}
 use Rattle.chaos_packet.specs.Begins.{Begins}
-use Rattle.chaosd_copy.specs.Copy.{Tids, upto, chunk, chunk_count, reply_of, logged_in, put_reply, put_commands, put_replies, get_commands, get_replies}
-use Rattle.chaosd_copy.specs.Ends.{login_command, login_reply}
-use Rattle.chaos_filelab.specs.Bodies.{data_bodies}
+use Rattle.file_copy.specs.Copy.{Tids, upto, chunk, chunk_count, reply_of, logged_in, put_reply, put_commands, put_replies, get_commands, get_replies}
+use Rattle.file_copy.specs.Ends.{login_command, login_reply}
+use Rattle.file_lab.specs.Bodies.{data_bodies}
 use Rattle.file_net.specs.History.{Transaction, Service, new_service, after_one, after_all, AreRight, commands_by, replies_to}
 use Rattle.file_net.specs.FileNet.{FileNet, FileReached, IsServedBy}
-use Rattle.chaos_filelab.proofs.BodyLists.{begins_split}
+use Rattle.file_lab.proofs.BodyLists.{begins_split}
 use Rattle.file_net.proofs.Lists.{commands_append, replies_append}
 use Rattle.file_net.proofs.Kept.{file_net}
 use Rattle.file_net.specs.Copies.{IsClient, IsReady, Talks, Copy, Put, Get, commands_of, replies_of, CanDo, IsCopied, all_commands, all_replies, CanDoAll, AreCopied, CopyAmongOthers, CopiesAmongOthers, LoginIsReady}

@@ -17,14 +17,14 @@ use Rattle.chaos_host.specs.Deeds.HostEvent.{Calls}
 use Rattle.chaos_file.specs.Apply.{Applies}
 use Rattle.chaos_file.specs.Session.{SessionView}
 use Rattle.chaos_file.specs.Store.{Files, StoreChange, change}
-use Rattle.chaos_serve.specs.Answer.{IsUnused}
-use Rattle.chaos_serve.specs.Calls.{after_reply_at}
-use Rattle.chaos_serve.specs.Host.{in_slot, DoesWorkInSlot}
-use Rattle.chaos_serve.specs.Serve.{DoesWork, after_reply, after_eof}
-use Rattle.chaos_serve.specs.Work.{Work, NotOpen, Nothing, Full, LastItem, Command, work_of}
-use Rattle.chaos_serve.specs.declared.served.Served.{Served}
-use Rattle.chaos_serve.specs.declared.served.Served.TheVariants as told
-use Rattle.chaos_serve.proofs.Slots.{quiet_in, finished_in, replied_in}
+use Rattle.chaos_file.specs.ServeAnswer.{IsUnused}
+use Rattle.chaos_file.specs.ServeCalls.{after_reply_at}
+use Rattle.chaos_file.specs.ServeHost.{in_slot, DoesWorkInSlot}
+use Rattle.chaos_file.specs.Serve.{DoesWork, after_reply, after_eof}
+use Rattle.chaos_file.specs.ServeWork.{Work, NotOpen, Nothing, Full, LastItem, Command, work_of}
+use Rattle.chaos_file.specs.declared.served.Served.{Served}
+use Rattle.chaos_file.specs.declared.served.Served.TheVariants as told
+use Rattle.chaos_file.proofs.ServeSlots.{quiet_in, finished_in, replied_in}
 use Rattle.chaos_lab.specs.declared.side.Side.{Side}
 use Rattle.chaos_lab.specs.declared.side.Side.TheVariants.{B}
 use Rattle.chaos_net.specs.Net.{Name, Sent, Station, Net, is_name, sent_by, happens}
@@ -34,7 +34,7 @@ use Rattle.chaos_net.proofs.Next.{same_name, other_name}
 use Rattle.file_net.specs.History.{Way, AsDefined, NoMemory, StoreFault, MayGo, reply_by, files_by, session_by}
 use Rattle.file_net.specs.FileNet.{FileNet, Serves, CanHappen, after_reading, served_by, file_happens, CanServe}
 use Rattle.file_net.specs.Serving.{SendsMore, Leads, ServingIsEvent}
-use Rattle.chaos_filelab.proofs.ServedTurns.{is_work}
+use Rattle.file_lab.proofs.ServedTurns.{is_work}
 
 -- A store is honest here: it keeps these files, and where it is as it was it keeps them still.
 pub record IsHonest (store : StoreChange) (m : Files) : Type 0 where

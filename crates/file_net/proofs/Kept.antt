@@ -10,9 +10,9 @@ use Rattle.chaos_host.specs.declared.slot.Slot.{Slot}
 use Rattle.chaos_host.specs.Slot.{named_slot}
 use Rattle.chaos_file.specs.Store.{Files}
 use Rattle.chaos_file.proofs.Fitting.{AreSmall}
-use Rattle.chaos_serve.specs.Work.{Work, NotOpen, Nothing, Full, LastItem, Command, work_of}
-use Rattle.chaos_serve.specs.Calls.{work_at}
-use Rattle.chaos_serve.proofs.Taken.{only_open}
+use Rattle.chaos_file.specs.ServeWork.{Work, NotOpen, Nothing, Full, LastItem, Command, work_of}
+use Rattle.chaos_file.specs.ServeCalls.{work_at}
+use Rattle.chaos_file.proofs.ReplyTaken.{only_open}
 use Rattle.chaos_lab.specs.declared.side.Side.TheVariants.{A, B}
 use Rattle.chaos_lab.specs.Shown.{IsUsers}
 use Rattle.chaos_net.specs.Net.{Name, Story, Net, Reached, IsNew, HoldsWith, is_name, happens}
@@ -21,14 +21,14 @@ use Rattle.chaos_net.proofs.Holding.{name_eq}
 use Rattle.chaos_net.proofs.Lists.{some_eq}
 use Rattle.chaos_net.proofs.Network.{network, reached_is_played}
 use Rattle.chaos_net.proofs.Standing.{reached_on}
-use Rattle.chaos_filelab.specs.Bodies.{data_bodies}
+use Rattle.file_lab.specs.Bodies.{data_bodies}
 use Rattle.file_net.specs.History.{Way, Transaction, new_service, after_one, after_all, IsRight, commands_by, replies_to}
 use Rattle.file_net.specs.FileNet.{FileNet, FileEvent, Nets, Serves, transaction_of, after_reading, after_transaction, served_by, file_happens, CanServe, CanHappen, FileRun, new_file_net, FileReached, HasOneHistory, IsServedBy, FileNetLaw, HistoriesGrow}
-use Rattle.chaos_filelab.proofs.BodyLists.{begins_whole, bodies_begin}
+use Rattle.file_lab.proofs.BodyLists.{begins_whole, bodies_begin}
 use Rattle.file_net.proofs.Lists.{of_kind, one_body, after_more, right_more, commands_own, replies_own, commands_other, replies_other}
 use Rattle.file_net.proofs.Fits.{reply_fits, session_small}
 use Rattle.file_net.proofs.Quiet.{SameBodies, net_bodies}
-use Rattle.chaos_filelab.proofs.ServedTurns.{is_work}
+use Rattle.file_lab.proofs.ServedTurns.{is_work}
 use Rattle.file_net.proofs.Served.{HasItem, has_read, has_replied, item_is_users}
 
 -- A file net whose net is reached, which has one history, and whose sessions hold no more than the greatest file in a handle, so that each reply fits into a packet

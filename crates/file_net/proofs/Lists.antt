@@ -8,8 +8,8 @@ use Rattle.chaos_packet.specs.declared.opcode.Kind.{Kind}
 use Rattle.chaos_packet.specs.declared.opcode.Kind.TheVariants as kind
 use Rattle.chaos_net.specs.Net.{Name, is_name}
 use Rattle.chaos_net.proofs.Next.{same_name, other_name}
-use Rattle.chaos_filelab.specs.Bodies.{with_body, data_bodies}
-use Rattle.chaos_filelab.proofs.BodyLists.{bodies_append}
+use Rattle.file_lab.specs.Bodies.{with_body, data_bodies}
+use Rattle.file_lab.proofs.BodyLists.{bodies_append}
 use Rattle.file_net.specs.History.{Transaction, Service, after_one, after_all, IsRight, AreRight, commands_by, replies_to}
 
 -- ---- bodies

@@ -5,7 +5,7 @@ use Rattle.chaos_net.specs.Net.{Name, is_name}
 use Rattle.chaos_net.proofs.Next.{same_name, other_name}
 use Rattle.chaos_packet.specs.Begins.{Begins}
 use Rattle.file_net.specs.History.{Transaction, Service, after_one, after_all, AreRight, commands_by, replies_to}
-use Rattle.chaos_filelab.proofs.BodyLists.{begins_split}
+use Rattle.file_lab.proofs.BodyLists.{begins_split}
 use Rattle.file_net.proofs.Lists.{commands_append, replies_append}
 
 -- ---- names

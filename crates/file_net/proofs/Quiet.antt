@@ -50,7 +50,7 @@ use Rattle.chaos_net.specs.Present.{read_of, written_of}
 use Rattle.chaos_net.proofs.Lists.{some_eq}
 use Rattle.chaos_net.proofs.Holding.{name_eq}
 use Rattle.chaos_net.proofs.Next.{look_own, look_other}
-use Rattle.chaos_filelab.specs.Bodies.{data_bodies}
+use Rattle.file_lab.specs.Bodies.{data_bodies}
 use Rattle.file_net.specs.FileNet.{is_item_call, is_by_server}
 use Rattle.file_net.proofs.Lists.{no_body, of_kind, rfc_kind}
 

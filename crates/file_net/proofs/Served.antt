@@ -19,8 +19,8 @@ use Rattle.chaos_host.specs.Calls.{call_slot}
 use Rattle.chaos_host.specs.Deeds.{by_named}
 use Rattle.chaos_host.specs.Deeds.HostEvent.{Calls}
 use Rattle.chaos_host.proofs.Indices.{named_is}
-use Rattle.chaos_serve.proofs.Slots.{named_after}
-use Rattle.chaos_serve.proofs.Taken.{read_leaves, reply_taken}
+use Rattle.chaos_file.proofs.ServeSlots.{named_after}
+use Rattle.chaos_file.proofs.ReplyTaken.{read_leaves, reply_taken}
 use Rattle.chaos_lab.specs.declared.side.Side.{Side}
 use Rattle.chaos_lab.specs.declared.side.Side.TheVariants.{A, B}
 use Rattle.chaos_lab.specs.Machine.{other}
@@ -28,7 +28,7 @@ use Rattle.chaos_lab.specs.Laboratory.{LabView, EndView, lab_end, with_given}
 use Rattle.chaos_lab.specs.Shown.{IsUsers}
 use Rattle.chaos_lab.specs.Tied.{HasMachine}
 use Rattle.chaos_lab.proofs.Plays.{reads_begin, open_has_read}
-use Rattle.chaos_filelab.proofs.KeptSteps.{at_last, read_gives, users_later}
+use Rattle.file_lab.proofs.KeptSteps.{at_last, read_gives, users_later}
 use Rattle.chaos_net.specs.Net.{Name, Story, Station, Net, Reached, goes_on, story_after, after_slot, after_deed, happens}
 use Rattle.chaos_net.specs.Net.NetEvent.{At}
 use Rattle.chaos_net.specs.Played.{IsEnd, IsLinked, HasPeer, ArePlayed, plain}

@@ -12,8 +12,8 @@ use Rattle.chaos_net.specs.Played.{ArePlayed}
 use Rattle.chaos_net.proofs.Network.{reached_is_played}
 use Rattle.chaos_net.proofs.Short.{AreWithin, can_happen, more_within, new_within, step_within}
 use Rattle.chaos_net.specs.Present.{named}
-use Rattle.chaos_serve.specs.Work.{Work, NotOpen, Nothing as Idle, Full, LastItem, Command}
-use Rattle.chaos_serve.specs.Calls.{work_at}
+use Rattle.chaos_file.specs.ServeWork.{Work, NotOpen, Nothing as Idle, Full, LastItem, Command}
+use Rattle.chaos_file.specs.ServeCalls.{work_at}
 use Rattle.file_net.specs.History.{Way, AsDefined}
 use Rattle.file_net.specs.FileNet.{FileNet, FileEvent, Nets, Serves, FileRun, CanServe, CanHappen, after_reading, served_by, transaction_of, file_happens, new_file_net}
 use Rattle.file_net.specs.Short.{after_file_events, IsPlain, ShortFileLaw}

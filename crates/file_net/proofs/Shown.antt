@@ -11,7 +11,7 @@ use Rattle.chaos_file.specs.Answer.{Answer, LoggedIn, Opened, Given, AtEnd, Wrot
 use Rattle.chaos_file.specs.Session.{SessionView}
 use Rattle.chaos_file.specs.Store.{Files}
 use Rattle.chaos_file.proofs.Spelling.{parsed_spelled}
-use Rattle.chaosd_copy.specs.Copy.{reply_of}
+use Rattle.file_copy.specs.Copy.{reply_of}
 use Rattle.file_net.specs.History.{Way, AsDefined, NoMemory, StoreFault, reply_by}
 
 -- it is the answer to a command that was carried out

@@ -30,15 +30,15 @@ use Rattle.chaos_net.proofs.Holding.{name_eq}
 use Rattle.chaos_net.proofs.Network.{reached_is_played}
 use Rattle.chaos_net.proofs.Next.{look_own, look_other, other_name, same_name}
 use Rattle.chaos_net.proofs.Present.{named_is_present}
-use Rattle.chaos_serve.specs.Work.{Work, NotOpen, Nothing as Idle, Full, LastItem, Command}
-use Rattle.chaos_serve.specs.Calls.{work_at}
-use Rattle.chaos_filelab.specs.Bodies.{data_bodies}
+use Rattle.chaos_file.specs.ServeWork.{Work, NotOpen, Nothing as Idle, Full, LastItem, Command}
+use Rattle.chaos_file.specs.ServeCalls.{work_at}
+use Rattle.file_lab.specs.Bodies.{data_bodies}
 use Rattle.file_net.specs.History.{Way}
 use Rattle.file_net.specs.FileNet.{FileNet, FileEvent, Nets, Serves, FileRun, FileReached, served_by, file_happens}
 use Rattle.file_net.specs.FileNet as file
 use Rattle.file_net.specs.Users.{item_taken, item_given, written_by, read_by, said_at, heard_at, said_in, heard_in, IsSaid, UsersAreTold}
 use Rattle.file_net.proofs.Kept.{IsSound, event_keeps, reached_is_sound}
-use Rattle.chaos_filelab.proofs.BodyLists.{bodies_append}
+use Rattle.file_lab.proofs.BodyLists.{bodies_append}
 use Rattle.file_net.proofs.Quiet.{SameBodies, IsQuietEvent, deed_bodies, quiet_deed}
 
 -- the bodies after these items more

@@ -19,9 +19,9 @@ use Rattle.chaos_file.specs.Spelling.{spelling_of}
 use Rattle.chaos_file.specs.Store.{Files}
 use Rattle.chaos_lab.specs.declared.side.Side.TheVariants.{A}
 use Rattle.chaos_net.specs.Net.{Name, Story}
-use Rattle.chaosd_copy.specs.Copy.{Tids, CanCopy, chunk_count, logged_in, put_front, put_commands, put_replies, get_commands, get_replies}
-use Rattle.chaosd_copy.specs.Ends.{login_command, login_reply}
-use Rattle.chaos_filelab.specs.Bodies.{data_bodies}
+use Rattle.file_copy.specs.Copy.{Tids, CanCopy, chunk_count, logged_in, put_front, put_commands, put_replies, get_commands, get_replies}
+use Rattle.file_copy.specs.Ends.{login_command, login_reply}
+use Rattle.file_lab.specs.Bodies.{data_bodies}
 use Rattle.file_net.specs.History.{Transaction, Service, new_service, after_one, after_all, commands_by}
 use Rattle.file_net.specs.FileNet.{FileNet, FileReached}
 

@@ -24,15 +24,15 @@ use Rattle.chaos_conn.specs.Act.{Call}
 use Rattle.chaos_conn.specs.Act.Call.{Write, Read, FinishRead}
 use Rattle.chaos_host.specs.Deeds.HostEvent.{Calls}
 use Rattle.chaos_file.specs.Store.{Files}
-use Rattle.chaos_serve.specs.Work.{Work}
-use Rattle.chaos_serve.specs.Work.Work.{LastItem, Command}
-use Rattle.chaos_serve.specs.Calls.{work_at}
+use Rattle.chaos_file.specs.ServeWork.{Work}
+use Rattle.chaos_file.specs.ServeWork.Work.{LastItem, Command}
+use Rattle.chaos_file.specs.ServeCalls.{work_at}
 use Rattle.chaos_lab.specs.declared.side.Side.TheVariants.{A, B}
 use Rattle.chaos_net.specs.Net.{Name, Story, Net, NetEvent, IsNew, happens}
 use Rattle.chaos_net.specs.Net as net
 use Rattle.chaos_net.specs.Net.NetEvent.{At, Arrives}
 use Rattle.chaos_net.specs.Present.{named, read_of, written_of}
-use Rattle.chaos_filelab.specs.Bodies.{data_bodies}
+use Rattle.file_lab.specs.Bodies.{data_bodies}
 use Rattle.file_net.specs.History.{Way, Transaction, Service, MayGo, reply_by, new_service, after_one, after_all, AreRight, commands_by, replies_to}
 
 -- both hosts and the network; the files and B's sessions; and all commands that the server served, the oldest command first

@@ -9,8 +9,8 @@ use Rattle.chaos_host.specs.View.{HostView}
 use Rattle.chaos_host.specs.Acted.{HostActed, HostDoes}
 use Rattle.chaos_file.specs.Session.{SessionView}
 use Rattle.chaos_file.specs.Store.{Files, change}
-use Rattle.chaos_serve.specs.Host.{ServesOne}
-use Rattle.chaos_serve.specs.declared.served.Served.{Served}
+use Rattle.chaos_file.specs.ServeHost.{ServesOne}
+use Rattle.chaos_file.specs.declared.served.Served.{Served}
 use Rattle.chaos_lab.specs.declared.side.Side.TheVariants.{B}
 use Rattle.chaos_net.specs.Net.{Name, Sent, Station}
 use Rattle.chaos_net.specs.Present.{named}

@@ -23,7 +23,7 @@ use Rattle.chaos_net.specs.Net.{Name, Net, IsNew, new_station}
 use Rattle.chaos_net.specs.Net.NetEvent.{At, Arrives}
 use Rattle.chaos_net.specs.Present.{read_of}
 use Rattle.chaos_net.specs.Short.{IsAnyAge}
-use Rattle.chaos_filelab.specs.Bodies.{data_bodies}
+use Rattle.file_lab.specs.Bodies.{data_bodies}
 use Rattle.file_net.specs.History.{AsDefined}
 use Rattle.file_net.specs.FileNet.{FileNet, FileEvent, Nets, Serves, FileReached, file_happens, new_file_net, is_by_server}
 

@@ -17,7 +17,7 @@ use Rattle.chaos_lab.specs.declared.side.Side.TheVariants.{A}
 use Rattle.chaos_net.specs.Net.{Name, Station, is_name}
 use Rattle.chaos_net.specs.Net.NetEvent.{At}
 use Rattle.chaos_net.specs.Present.{named, read_of, written_of}
-use Rattle.chaos_filelab.specs.Bodies.{data_bodies}
+use Rattle.file_lab.specs.Bodies.{data_bodies}
 use Rattle.file_net.specs.FileNet.{FileNet, FileEvent, Nets, FileRun, FileReached, file_happens}
 
 -- ---- one call

@@ -6,10 +6,10 @@ use Rattle.chaos_host.specs.Acted.{HostActed, HostDoes}
 use Rattle.chaos_host.specs.View.{HostView}
 use Rattle.chaos_link.specs.declared.carriage.Carriage.{Carriage}
 use Rattle.chaos_link.specs.Link.{Ask, QueueView}
-use Rattle.chaos_turn.specs.Link.{SendsLots, has_packets}
-use Rattle.chaos_turn.specs.Phase.{DoesPhase, effect_of}
-use Rattle.chaos_turn.specs.Station.{station}
-use Rattle.chaos_turn.proofs.Phase.{put_into_empty}
+use Rattle.chaos_node.specs.Link.{SendsLots, has_packets}
+use Rattle.chaos_node.specs.Phase.{DoesPhase, effect_of}
+use Rattle.chaos_node.specs.Station.{station}
+use Rattle.chaos_node.proofs.Phase.{put_into_empty}
 
 -- such a call is a phase
 pub call_sent : {A : Type 0} {asked : List Ask → Type 0} (carriage : Carriage) (acted : HostActed A) (h m : HostView)

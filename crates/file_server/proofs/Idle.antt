@@ -1,9 +1,10 @@
 -- Phases that do nothing.
-use Rattle.std.proofs.Common.{Bool, zero, suc, length, ◌≡◌, ℕ, false, List, [], ◌∷◌, Option, Some, None, Ok, refl, ap, sym, ◌∙◌}
+use Rattle.std.proofs.Common.{Bool, if◌then◌else◌, zero, suc, length, ◌≡◌, ℕ, false, List, [], ◌∷◌, Option, Some, None, Ok, refl, ap, sym, ◌∙◌}
 use Rattle.chaos_packet.specs.Packet.{PacketView}
+use Rattle.chaos_conn.specs.Act.{Close}
 use Rattle.chaos_conn.specs.State.{is_ended}
 use Rattle.chaos_conn.specs.View.{ConnView}
-use Rattle.chaos_host.specs.Calls.{release_slot}
+use Rattle.chaos_host.specs.Calls.{host_end, release_slot}
 use Rattle.chaos_host.specs.Slot.{named_slot}
 use Rattle.chaos_host.specs.View.{HostView, host_look, id_at, look_slot}
 use Rattle.chaos_host.specs.declared.slot.Slot.{Slot}
@@ -13,16 +14,16 @@ use Rattle.chaos_link.specs.declared.link.Link.{Ghosts}
 use Rattle.chaos_link.specs.declared.carriage.Carriage.{Carriage}
 use Rattle.chaos_link.specs.declared.carriage.Carriage.TheVariants.{One, Two}
 use Rattle.chaos_link.proofs.Asked.{asks_none}
-use Rattle.chaos_turn.specs.Link.{has_packets, read_all, sent_by}
-use Rattle.chaos_turn.specs.InTurn.{TurnDoes, station_of}
-use Rattle.chaos_turn.specs.Phase.{DoesPhase, Effect, and_then, effect_of, no_effect_on, over_slots}
-use Rattle.chaos_turn.specs.Slots.{tick_at}
-use Rattle.chaos_turn.specs.Station.{Station}
-use Rattle.chaos_turn.specs.declared.turn.Turn.{Turn}
-use Rattle.chaos_turn.proofs.InTurn.{then_all_slots, then_does}
-use Rattle.chaos_turn.proofs.Queue.{or_false, sends_nothing}
-use Rattle.file_server.specs.Sessions.{Serving}
-use Rattle.file_server.specs.Slots.{EndsNothing, IsIdle, close_at, end_phases, release_at}
+use Rattle.chaos_node.specs.Link.{has_packets, read_all, sent_by}
+use Rattle.chaos_node.specs.InTurn.{TurnDoes, station_of}
+use Rattle.chaos_node.specs.Phase.{DoesPhase, Effect, and_then, effect_of, no_effect_on, over_slots}
+use Rattle.chaos_node.specs.Slots.{tick_at}
+use Rattle.chaos_node.specs.Station.{Station}
+use Rattle.chaos_node.specs.declared.turn.Turn.{Turn}
+use Rattle.chaos_node.proofs.InTurn.{then_all_slots, then_does}
+use Rattle.chaos_node.proofs.Queue.{or_false, sends_nothing}
+use Rattle.file_server.specs.Sessions.{Serving, serving_at}
+use Rattle.file_server.specs.Slots.{EndsNothing, EndsNothingAt, IsIdle, close_at, end_phases, is_late, is_over, is_over_in, release_at}
 
 none_sent : (carriage : Carriage) (lots : List (List PacketView)) → has_packets lots ≡ false → sent_by carriage lots ≡ []
 none_sent carriage [] e = refl
@@ -69,6 +70,30 @@ pub goes_on : {L : Type 0} {asked : AskedSince L Ask} (carriage : Carriage) (s :
 goes_on carriage s place id conn there shows on =
     idle carriage s (release_at place s.node)
     (rw there (release_nothing s.node id (named_slot s.node.slots id) conn shows on))
+
+-- ---- a connection that isn't over isn't closed
+
+close_nothing : (eof late : Bool) (h : HostView) (id : ℕ) (found : Option Slot) (conn : ConnView)
+    → look_slot (λ c. c) found ≡ Ok conn → is_over eof late conn ≡ false
+    → IsIdle (if is_over_in eof late found then effect_of (host_end h id (Close [])) else no_effect_on h) h
+close_nothing eof late h id None conn shows not = absurd (cc)
+close_nothing eof late h id (Some slot) conn shows not =
+    let same : slot.conn ≡ conn = cc in
+    let on : is_over eof late slot.conn ≡ false = rw same not in
+    rw on (refl, refl)
+
+-- what serving a slot left, and its connection, end nothing there
+pub ends_nothing_at : (silence : Option ℕ) (now : ℕ) (sessions : List Serving) (h : HostView) (place id : ℕ)
+    (conn : ConnView)
+    → id_at h place ≡ Some id → host_look h id (λ c. c) ≡ Ok conn
+    → is_over (serving_at sessions place).eof (is_late silence (serving_at sessions place).since now) conn ≡ false
+    → is_ended conn.state ≡ false → EndsNothingAt silence now sessions h place
+ends_nothing_at silence now sessions h place id conn there shows on lives =
+    let serving = serving_at sessions place in (
+      rw there
+          (close_nothing serving.eof (is_late silence serving.since now) h id (named_slot h.slots id) conn shows on),
+      rw there (release_nothing h id (named_slot h.slots id) conn shows lives),
+    )
 
 -- ---- a turn in which nothing ends
 

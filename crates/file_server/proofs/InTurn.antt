@@ -1,24 +1,44 @@
 -- Phases of a server's turn that has begun, one after another.
-use Rattle.std.proofs.Common.{◌≡◌, ℕ, suc, Bool, true, false, if◌then◌else◌, List, length, Option, refl, ap, ◌∙◌, subst}
+use Rattle.std.proofs.Common.{◌≡◌, ℕ, suc, Bool, true, false, if◌then◌else◌, List, [], length, slice_get, Option, Some, None, Ok, Err, refl, ap, sym, ◌∙◌, subst, slice_set}
+use Rattle.std.proofs.lemmas.List.{append-nil, set-get_or}
 use Rattle.chaos_packet.specs.Packet.{PacketView}
+use Rattle.chaos_conn.specs.View.{ConnView}
+use Rattle.chaos_file.specs.ServeCalls.{is_served}
+use Rattle.chaos_file.specs.ServeWork.{work_of}
+use Rattle.chaos_file.specs.Session.{SessionView}
 use Rattle.chaos_host.specs.Deliver.{host_deliver}
+use Rattle.chaos_host.specs.View.{HostView, host_look, id_at}
 use Rattle.chaos_host.specs.declared.answers.HostDelivered.{HostDelivered}
 use Rattle.chaos_link.specs.declared.carriage.Carriage.{Carriage}
 use Rattle.chaos_link.specs.Link.{Asks}
 use Rattle.chaos_link.specs.declared.link.Link.{Ghosts}
-use Rattle.chaos_turn.specs.Arrive.{Arrival, deliver_effect}
-use Rattle.chaos_turn.specs.InTurn.{IsSameTurn, TurnDoes}
-use Rattle.chaos_turn.specs.declared.turn.Turn.{Turn}
-use Rattle.chaos_turn.proofs.InTurn.{same_twice, still, then_does}
+use Rattle.chaos_node.specs.Arrive.{Arrival, deliver_effect}
+use Rattle.chaos_node.specs.InTurn.{IsSameTurn, TurnDoes, station_of}
+use Rattle.chaos_node.specs.Phase.{DoesPhase, Effect, and_then, over_packets}
+use Rattle.chaos_node.specs.declared.turn.Turn.{Turn}
+use Rattle.chaos_node.proofs.InTurn.{TurnTakes, same_twice, still, then_does}
+use Rattle.chaos_node.proofs.Queue.{none_left}
 use Rattle.file_server.specs.Arrive.{accept_by, arrive_at_server, greet, request_in}
 use Rattle.file_server.specs.InTurn.{ServerTurnDoes, server_in}
 use Rattle.file_server.specs.Serve.{ServerDoes, ServesSlotBy, ServesSlotsBy, Uses}
 use Rattle.file_server.specs.Server.{Server, after_giving_back, with_host}
-use Rattle.file_server.specs.Sessions.{Serving}
+use Rattle.file_server.specs.Sessions.{Serving, new_serving, serving_at, serving_of}
 use Rattle.file_server.specs.Slots.{end_phases}
 use Rattle.file_server.specs.Turn.{IsTurnBy}
+use Rattle.file_server.proofs.Passed.{passed_so}
 use Rattle.file_server.proofs.Relation.{slots_none, slots_so}
 use Rattle.file_server.proofs.Whole.{turn_so}
+
+-- the packets of what came
+abbrev pub packets_in : Arrival → List PacketView
+packets_in (Some (Ok packets)) = packets
+packets_in _ = []
+
+greets_in : (came : Arrival) (start now : ℕ) (h : HostView)
+    → over_packets (greet start now) (packets_in came) h ≡ arrive_at_server came start now h
+greets_in None start now h = refl
+greets_in (Some (Err fault)) start now h = refl
+greets_in (Some (Ok packets)) start now h = refl
 
 module _ {L : Type 0} {G : Ghosts L} where
   -- a packet was delivered, and the request for FILE that it is, accepted
@@ -33,6 +53,22 @@ module _ {L : Type 0} {G : Ghosts L} where
       let found : request ≡ wanted = asked ∙ ap (request_in p) is in
       then_does a b c (deliver_effect a.now p a.host.now) (λ now after. accept_by after start now wanted) sent more all
       delivered (subst (λ (r : Option ℕ). TurnDoes b c (accept_by b.host.now start b.now r) more) found accepted) told
+
+  -- all packets of what came were greeted
+  pub all_greeted : (came : Arrival) (start : ℕ) (rest : List PacketView) (a b : Turn L G) (sent : Bool)
+      → TurnTakes (greet start a.now) (packets_in came) rest a b sent → slice_get rest 0 ≡ None
+      → TurnDoes a b (arrive_at_server came start a.now a.host.now) sent
+  all_greeted came start rest a b sent so none =
+      let done = so.0.done in
+      let all : done ≡ arrive_at_server came start a.now a.host.now =
+      ap (λ (lots : List (List PacketView)). record { host = done.host; lots = lots }) (sym (append-nil done.lots))
+      ∙ ap (λ (ps : List PacketView). and_then done (over_packets (greet start a.now) ps)) (sym (none_left rest none))
+      ∙ so.0.whole ∙ greets_in came start a.now a.host.now in (
+        subst
+            (λ (e : Effect). DoesPhase (Asks (G.asked a.link.now) (G.asked b.link.now)) a.carriage e (station_of a)
+            (station_of b) sent) all so.0.does,
+        so.1,
+      )
 
 module _ {L S : Type 0} {G : Ghosts L} (uses : Uses S) where
   -- a phase of the turn at its moment and by its carriage, as they were when the turn began
@@ -65,6 +101,21 @@ module _ {L S : Type 0} {G : Ghosts L} (uses : Uses S) where
         one.0 (serves_still a b c (λ (now : ℕ). ServesSlotBy uses now place) ys zs t u more one.1 two) e,
     same_twice a b c one.1 two.1,
   )
+
+  -- the first slots were served, and the next has nothing to serve
+  pub none_to_serve : (a b : Turn L G) (place id : ℕ) (conn : ConnView) (here : Serving) (xs ys : List Serving) (s t : S)
+      (sent : Bool)
+      → ServerTurnDoes a b (ServesSlotsBy uses a.now place) xs ys s t sent
+      → id_at b.host.now place ≡ Some id → here ≡ serving_at ys place → serving_of id b.now here ≡ here
+      → host_look b.host.now id (λ c. c) ≡ Ok conn → is_served (Some (work_of conn)) ≡ false
+      → ((v : SessionView) → (uses t t b.host.now id v v).unused)
+      → ServerTurnDoes a b (ServesSlotsBy uses a.now (suc place)) xs ys s t sent
+  none_to_serve a b place id conn here xs ys s t sent done there is serves shows none same =
+      one_served a b b place xs ys ys s t t sent false sent done (
+        passed_so uses b.carriage here ys ys t place id b.now b.host.now conn b.out.now (G.queue b.link.now) there is
+            (sym (ap (slice_set ys place) is ∙ set-get_or ys place new_serving)) serves shows none same b.empty,
+        (refl, refl, refl, refl, refl),
+      ) refl
 
   -- what came was taken, each slot was served, and the last phases were made; the files were given back
   pub turn_taken : (silence : Option ℕ) (came : Arrival) (start : ℕ) (a b c d : Turn L G) (xs ys zs : List Serving)

@@ -6,3 +6,5 @@ pub mod Calls
 pub mod Served
 pub mod InTurn
 pub mod Idle
+pub mod LoggedRun
+pub mod Free

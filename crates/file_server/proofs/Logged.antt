@@ -11,15 +11,16 @@ use Rattle.chaos_host.specs.Slot.{named_slot, place_of}
 use Rattle.chaos_host.specs.View.{HostView, id_at}
 use Rattle.chaos_link.specs.Link.{Ask}
 use Rattle.chaos_link.specs.declared.carriage.Carriage.{Carriage}
-use Rattle.chaos_serve.specs.Answer.{IsAnswered, IsUnused}
-use Rattle.chaos_serve.specs.Host.{DoesWorkInSlotBy}
-use Rattle.chaos_serve.specs.declared.served.Served.{Served}
-use Rattle.chaos_serve.proofs.Slots as slots
-use Rattle.chaos_turn.specs.Arrive.{Arrival}
-use Rattle.chaos_turn.specs.Station.{Station, station}
-use Rattle.chaos_turn.specs.declared.end.TurnEnd.{TurnEnd}
+use Rattle.chaos_link.specs.declared.report.LinkReport.{LinkReport}
+use Rattle.chaos_file.specs.ServeAnswer.{IsAnswered, IsUnused}
+use Rattle.chaos_file.specs.ServeHost.{DoesWorkInSlotBy}
+use Rattle.chaos_file.specs.declared.served.Served.{Served}
+use Rattle.chaos_file.proofs.ServeSlots as slots
+use Rattle.chaos_node.specs.Arrive.{Arrival}
+use Rattle.chaos_node.specs.Station.{Station, station}
+use Rattle.chaos_node.specs.declared.end.TurnEnd.{TurnEnd}
 use Rattle.file_server.specs.Arrive.{arrive_at_server}
-use Rattle.file_server.specs.Logged.{Logged, logged_use, logged_uses, report_use, told_made}
+use Rattle.file_server.specs.Logged.{Logged, LogsTurn, after_arrival, logged_use, logged_uses, report_use, told_made}
 use Rattle.file_server.specs.Serve.{DoesKept, IsServedAt, ServesPlace, ServesPlaceBy, ServesSlots, ServesSlotsBy, SessionServesBy, serving_after}
 use Rattle.file_server.specs.Server.{Server, server, with_host}
 use Rattle.file_server.specs.Sessions.{Serving, serving_at, serving_of}
@@ -120,5 +121,19 @@ module _ {S : Type 0} (changes : S → S → StoreChange) where
     came = is.came;
     lots = is.lots;
     turn = turn_plain silence is.came start now before.node after.node is.lots is.turn;
+    link = record { queue = is.link.queue; asks = is.link.asks; read = is.link.read; work = is.link.work };
+  }
+
+  pub logs_plain : (silence : Option ℕ) (reported : List Ask → LinkReport → Type 0) (asked : List Ask → Type 0) (waits : Bool) (carriage : Carriage) (start now : ℕ)
+      (before after : Station (Server (Logged S))) (result : TurnEnd)
+      → LogsTurn changes silence reported asked waits carriage start now before after result
+      → RunsTurn changes silence asked waits carriage start now
+      (station (plain before.node) before.queue before.outbox) (station (plain after.node) after.queue after.outbox)
+      result
+  logs_plain silence reported asked waits carriage start now before after result is = record {
+    came = is.came;
+    lots = is.lots;
+    turn =
+        turn_plain silence is.came start now (after_arrival is.came is.report before.node) after.node is.lots is.turn;
     link = record { queue = is.link.queue; asks = is.link.asks; read = is.link.read; work = is.link.work };
   }

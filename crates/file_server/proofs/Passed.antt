@@ -12,19 +12,19 @@ use Rattle.chaos_host.specs.declared.slot.Slot.{Slot}
 use Rattle.chaos_link.specs.Link.{Ask, AskedSince, Asks, QueueView}
 use Rattle.chaos_link.specs.declared.carriage.Carriage.{Carriage}
 use Rattle.chaos_link.specs.declared.carriage.Carriage.TheVariants.{One, Two}
-use Rattle.chaos_serve.specs.Calls.{DoesWorkByCalls, is_served}
-use Rattle.chaos_serve.specs.Host.{DoesWorkInSlotBy}
-use Rattle.chaos_serve.specs.Work.{Work, NotOpen, Nothing, Full, LastItem, Command, work_of}
-use Rattle.chaos_serve.specs.declared.served.Served.{Served}
-use Rattle.chaos_serve.specs.declared.served.Served.TheVariants as told
-use Rattle.chaos_serve.proofs.Slots.{serves_one}
-use Rattle.chaos_turn.specs.Link.{SendsLots, has_packets}
+use Rattle.chaos_file.specs.ServeCalls.{DoesWorkByCalls, is_served}
+use Rattle.chaos_file.specs.ServeHost.{DoesWorkInSlotBy}
+use Rattle.chaos_file.specs.ServeWork.{Work, NotOpen, Nothing, Full, LastItem, Command, work_of}
+use Rattle.chaos_file.specs.declared.served.Served.{Served}
+use Rattle.chaos_file.specs.declared.served.Served.TheVariants as told
+use Rattle.chaos_file.proofs.ServeSlots.{serves_one}
+use Rattle.chaos_node.specs.Link.{SendsLots, has_packets}
 use Rattle.file_server.specs.Serve.{ServerDoes, ServesPlaceBy, ServesSlotBy, Uses, serving_after}
 use Rattle.file_server.specs.Sessions.{Serving, eof_after, serving_at, serving_of}
-use Rattle.chaos_turn.specs.Station.{Station, station}
+use Rattle.chaos_node.specs.Station.{Station, station}
 use Rattle.file_server.specs.Server.{Server, server}
 use Rattle.chaos_link.proofs.Asked.{asks_none}
-use Rattle.chaos_turn.proofs.Queue.{lots_nothing, sends_nothing}
+use Rattle.chaos_node.proofs.Queue.{lots_nothing, sends_nothing}
 use Rattle.file_server.proofs.Relation.{kept_so, slot_so}
 
 -- what serving would tell, where it serves nothing

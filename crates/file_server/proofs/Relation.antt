@@ -11,18 +11,18 @@ use Rattle.chaos_host.specs.Acted.{HostActed, HostDoes}
 use Rattle.chaos_host.specs.Slot.{named_slot, place_of}
 use Rattle.chaos_host.specs.View.{HostView, id_at}
 use Rattle.chaos_host.specs.declared.slot.Slot.{Slot}
-use Rattle.chaos_serve.specs.Host.{DoesWorkInSlotBy, in_slot}
-use Rattle.chaos_serve.specs.Serve.{DoesWorkBy}
-use Rattle.chaos_serve.specs.Work.{Work, NotOpen, Nothing, Full, LastItem, Command, work_of}
-use Rattle.chaos_serve.specs.declared.served.Served.{Served}
+use Rattle.chaos_file.specs.ServeHost.{DoesWorkInSlotBy, in_slot}
+use Rattle.chaos_file.specs.Serve.{DoesWorkBy}
+use Rattle.chaos_file.specs.ServeWork.{Work, NotOpen, Nothing, Full, LastItem, Command, work_of}
+use Rattle.chaos_file.specs.declared.served.Served.{Served}
 use Rattle.chaos_link.specs.declared.carriage.Carriage.{Carriage}
-use Rattle.chaos_turn.specs.Link.{SendsLots, has_packets}
+use Rattle.chaos_node.specs.Link.{SendsLots, has_packets}
 use Rattle.file_server.specs.Serve.{DoesKept, IsServedAt, ServerDoes, ServesPlaceBy, ServesSlotBy, ServesSlotsBy, SessionServesBy, Use, Uses, serving_after}
 use Rattle.file_server.specs.Sessions.{Serving, serving_at, serving_of}
-use Rattle.chaos_turn.specs.Station.{Station, station}
+use Rattle.chaos_node.specs.Station.{Station, station}
 use Rattle.file_server.specs.Server.{Server, server}
-use Rattle.chaos_turn.proofs.Phase.{put_into_empty}
-use Rattle.chaos_turn.proofs.Queue.{lots_nothing, sends_both, has_both}
+use Rattle.chaos_node.proofs.Phase.{put_into_empty}
+use Rattle.chaos_node.proofs.Queue.{lots_nothing, sends_both, has_both}
 
 module _ (answered : List ℕ → List ℕ → Type 0) (unused : Type 0) where
   by_work : (P Q : Acted Served → Type 0) (v : ConnView) (now : ℕ) (work : Work)

@@ -4,12 +4,12 @@ use Rattle.std.proofs.lemmas.List.{length-set}
 use Rattle.chaos_host.specs.View.{HostView, id_at}
 use Rattle.chaos_link.specs.Link.{Ask, AskedSince, Asks}
 use Rattle.chaos_link.specs.declared.carriage.Carriage.{Carriage}
-use Rattle.chaos_turn.specs.Arrive.{Arrival}
-use Rattle.chaos_turn.specs.Link.{has_packets}
-use Rattle.chaos_turn.specs.Phase.{DoesPhase}
-use Rattle.chaos_turn.specs.Station.{Station, station}
-use Rattle.chaos_turn.proofs.Queue.{sends_both}
-use Rattle.chaos_turn.proofs.Whole.{has_all}
+use Rattle.chaos_node.specs.Arrive.{Arrival}
+use Rattle.chaos_node.specs.Link.{has_packets}
+use Rattle.chaos_node.specs.Phase.{DoesPhase}
+use Rattle.chaos_node.specs.Station.{Station, station}
+use Rattle.chaos_node.proofs.Queue.{sends_both}
+use Rattle.chaos_node.proofs.Whole.{has_all}
 use Rattle.file_server.specs.Arrive.{arrive_at_server}
 use Rattle.file_server.specs.Serve.{ServerDoes, ServesSlotsBy, Uses}
 use Rattle.file_server.specs.Server.{Server, after_giving_back, with_host}

@@ -8,8 +8,8 @@ use Rattle.chaos_host.specs.declared.answers.HostDelivered.TheVariants as answer
 use Rattle.chaos_host.specs.Calls.{host_call}
 use Rattle.chaos_host.specs.Deliver.{host_deliver}
 use Rattle.chaos_host.specs.View.{HostView}
-use Rattle.chaos_turn.specs.Arrive.{Arrival, deliver_effect}
-use Rattle.chaos_turn.specs.Phase.{Effect, no_effect_on, effect_of, and_then, over_packets}
+use Rattle.chaos_node.specs.Arrive.{Arrival, deliver_effect}
+use Rattle.chaos_node.specs.Phase.{Effect, no_effect_on, effect_of, and_then, over_packets}
 
 -- the new connection of a request for FILE
 abbrev pub request_in : PacketView → HostDelivered → Option ℕ

@@ -3,9 +3,9 @@ use Rattle.std.specs.Prelude.{Bool, List}
 use Rattle.chaos_packet.specs.Packet.{PacketView}
 use Rattle.chaos_link.specs.Link.{Asks}
 use Rattle.chaos_link.specs.declared.link.Link.{Ghosts}
-use Rattle.chaos_turn.specs.InTurn.{IsSameTurn}
-use Rattle.chaos_turn.specs.Station.{Station, station}
-use Rattle.chaos_turn.specs.declared.turn.Turn.{Turn}
+use Rattle.chaos_node.specs.InTurn.{IsSameTurn}
+use Rattle.chaos_node.specs.Station.{Station, station}
+use Rattle.chaos_node.specs.declared.turn.Turn.{Turn}
 use Rattle.file_server.specs.Serve.{ServerDoes}
 use Rattle.file_server.specs.Server.{Server, server}
 use Rattle.file_server.specs.Sessions.{Serving}

@@ -2,6 +2,7 @@ pub mod Arrive
 pub mod Fault
 pub mod InTurn
 pub mod Logged
+pub mod LoggedRun
 pub mod Serve
 pub mod Server
 pub mod Service

@@ -1,20 +1,25 @@
--- What a server's log is told of the commands that are served.
-use Rattle.std.specs.Prelude.{◌≡◌, ℕ, List, Bool, Option, Some, None}
+-- What a server logs of the datagram that comes and of the commands that are served.
+use Rattle.std.specs.Prelude.{◌≡◌, ◌==◌, ℕ, List, [], Bool, if◌then◌else◌, Option, Some, None, Ok, option_map, slice_get}
+use Rattle.chaos_packet.specs.Packet.{PacketView}
 use Rattle.chaos_file.specs.Session.{SessionView}
 use Rattle.chaos_file.specs.Store.{StoreChange}
 use Rattle.chaos_file.specs.declared.change.Change.{Change}
-use Rattle.chaos_serve.specs.Answer.{IsReported, IsUnreported, IsUnused}
+use Rattle.chaos_file.specs.ServeAnswer.{IsReported, IsUnreported, IsUnused}
 use Rattle.chaos_link.specs.Link.{Ask}
 use Rattle.chaos_link.specs.declared.carriage.Carriage.{Carriage}
 use Rattle.chaos_conn.specs.declared.state.End.{End}
-use Rattle.chaos_turn.specs.Station.{Station}
-use Rattle.chaos_turn.specs.declared.end.TurnEnd.{TurnEnd}
+use Rattle.chaos_link.specs.declared.report.LinkReport.{LinkReport}
+use Rattle.chaos_node.specs.Arrive.{Arrival}
+use Rattle.chaos_node.specs.Link.{turn_asks}
+use Rattle.chaos_node.specs.Station.{Station}
+use Rattle.chaos_node.specs.Turn.{GoesOver}
+use Rattle.chaos_node.specs.declared.end.TurnEnd.{TurnEnd}
 use Rattle.file_server.specs.Serve.{Use, Uses}
 use Rattle.file_server.specs.Server.{Server}
-use Rattle.file_server.specs.Turn.{RunsTurnBy}
-use Rattle.file_server.specs.Watch.{Event, peer_at, told_changed}
+use Rattle.file_server.specs.Turn.{IsTurnBy}
+use Rattle.file_server.specs.Watch.{Event, peer_at, told_changed, told_heard}
 
--- a store beside what its server's log was told so far
+-- a store beside what its server's log has so far
 abbrev pub Logged : Type 0 → Type 0
 Logged S = S × Option (List Event)
 
@@ -23,8 +28,8 @@ abbrev pub told_made : End → Option (List ℕ) → Option Change → Option (L
 told_made peer login None told = told
 told_made peer login (Some change) told = told_changed peer login change told
 
--- A command of a connection: the log is told what it changed, with the connection's peer and the name that its user gave.
--- Where no command is given, the log is told nothing.
+-- A command of a connection: what the command changed is logged, with the connection's peer and the name that its user
+-- gave. Where no command is given, nothing is logged.
 abbrev pub logged_use : StoreChange → Option (List Event) → Option (List Event) → End → SessionView → SessionView → Use
 logged_use store told told' peer s t = record {
   answered = λ command reply. (made : Option Change) × IsReported store s t made command reply
@@ -39,8 +44,36 @@ report_use store made s t = record { answered = IsReported store s t made; unuse
 abbrev pub logged_uses : {S : Type 0} → (S → S → StoreChange) → Uses (Logged S)
 logged_uses changes before after h id = logged_use (changes before.0 after.0) before.1 after.1 (peer_at h id)
 
--- A whole turn of a server at its link, as `RunsTurn` has it, in which the log was told what each command that was served
--- changed, in the order in which they were served: with the peer of the connection whose command it was.
-abbrev pub LogsTurn : {S : Type 0} → (S → S → StoreChange) → Option ℕ → (List Ask → Type 0) → Bool → Carriage → ℕ → ℕ
-    → Station (Server (Logged S)) → Station (Server (Logged S)) → TurnEnd → Type 0
-LogsTurn changes = RunsTurnBy (logged_uses changes)
+-- ---- what came
+
+-- a datagram of the host with this address came, unless the address is no host's
+abbrev pub told_host : Option ℕ → LinkReport → Option (List Event) → Option (List Event)
+told_host None report told = told
+told_host (Some address) report told = if address == 0 then told else told_heard address report told
+
+-- of a datagram that carries packets, the host of its first packet is logged
+abbrev pub told_arrival : Arrival → LinkReport → Option (List Event) → Option (List Event)
+told_arrival (Some (Ok packets)) report told = told_host (option_map (λ p. p.src) (slice_get packets 0)) report told
+told_arrival _ report told = told
+
+abbrev pub after_arrival : {S : Type 0} → Arrival → LinkReport → Server (Logged S) → Server (Logged S)
+after_arrival came report s = record s { store = (s.store.0, told_arrival came report s.store.1) }
+
+-- Of a link that was asked just this, the log reads this report.
+abbrev pub IsReadOf : {L : Type 0} → (L → LinkReport) → (L → List Ask → Type 0) → List Ask → LinkReport → Type 0
+IsReadOf {L} reads asked asks report = (link : L) × asked link asks × (report ≡ reads link)
+
+-- A whole turn of a server at its link, as `RunsTurn` has it. The report is that of the link after the link was asked to
+-- send what waited and then once to receive, by `reported`. First it was logged which host's datagram came, and from
+-- where by the link's report. Then it was logged what each command that was served changed, in the order in which they were
+-- served: with the peer of the connection whose command it was.
+pub record LogsTurn {S : Type 0} (changes : S → S → StoreChange) (silence : Option ℕ)
+    (reported : List Ask → LinkReport → Type 0) (asked : List Ask → Type 0)
+    (waits : Bool) (carriage : Carriage) (start now : ℕ) (before after : Station (Server (Logged S)))
+    (result : TurnEnd) : Type 0 where
+  pub came : Arrival
+  pub report : LinkReport
+  pub read : reported (turn_asks carriage waits before.outbox.packets []) report
+  pub lots : List (List PacketView)
+  pub turn : IsTurnBy (logged_uses changes) silence came start now (after_arrival came report before.node) after.node lots
+  pub link : GoesOver asked waits carriage came lots before after result

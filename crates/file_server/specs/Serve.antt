@@ -7,14 +7,14 @@ use Rattle.chaos_host.specs.View.{HostView, id_at}
 use Rattle.chaos_host.specs.Acted.{HostActed, HostDoes}
 use Rattle.chaos_file.specs.Session.{SessionView}
 use Rattle.chaos_file.specs.Store.{StoreChange}
-use Rattle.chaos_serve.specs.Answer.{IsAnswered, IsUnused}
-use Rattle.chaos_serve.specs.Host.{DoesWorkInSlotBy}
-use Rattle.chaos_serve.specs.declared.served.Served.{Served}
+use Rattle.chaos_file.specs.ServeAnswer.{IsAnswered, IsUnused}
+use Rattle.chaos_file.specs.ServeHost.{DoesWorkInSlotBy}
+use Rattle.chaos_file.specs.declared.served.Served.{Served}
 use Rattle.chaos_link.specs.Link.{Ask}
 use Rattle.chaos_link.specs.declared.carriage.Carriage.{Carriage}
-use Rattle.chaos_turn.specs.Link.{SendsLots, has_packets}
+use Rattle.chaos_node.specs.Link.{SendsLots, has_packets}
 use Rattle.file_server.specs.Sessions.{Serving, eof_after, serving_at, serving_of}
-use Rattle.chaos_turn.specs.Station.{Station}
+use Rattle.chaos_node.specs.Station.{Station}
 use Rattle.file_server.specs.Server.{Server}
 
 -- a slot's session after it was served with this answer, and was left as that

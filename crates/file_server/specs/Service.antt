@@ -6,12 +6,12 @@ use Rattle.chaos_file.specs.Store.{StoreChange}
 use Rattle.chaos_conn.specs.Config.{ConfigView, usual_config}
 use Rattle.chaos_host.specs.Listening.{after_listen, listen_fault}
 use Rattle.chaos_host.specs.View.{HostView, new_host}
-use Rattle.chaos_turn.specs.Station.{Station, station}
-use Rattle.chaos_turn.specs.declared.end.TurnEnd.{TurnEnd}
-use Rattle.chaos_turn.specs.declared.limits.TheConstants.{TURN_ROOM}
-use Rattle.chaosd_clock.specs.Clock.{BeginsBy, IsMoment, number_of}
-use Rattle.chaosd_clock.specs.declared.clock.Epoch.{Epoch}
-use Rattle.chaosd_io.specs.declared.fault.RunFault.{RunFault}
+use Rattle.chaos_node.specs.Station.{Station, station}
+use Rattle.chaos_node.specs.declared.end.TurnEnd.{TurnEnd}
+use Rattle.chaos_node.specs.declared.limits.TheConstants.{TURN_ROOM}
+use Rattle.chaos_node.specs.Clock.{BeginsBy, IsMoment, number_of}
+use Rattle.chaos_node.specs.declared.clock.Epoch.{Epoch}
+use Rattle.chaos_node.specs.declared.fault.NodeFault.{NodeFault}
 use Rattle.file_server.specs.Server.{Server, server}
 use Rattle.file_server.specs.Sessions.{new_serving}
 use Rattle.file_server.specs.Turn.{RunsTurn}
@@ -25,7 +25,7 @@ listening_host config address =
     after_listen (listen_fault [] (codes "FILE")) (new_host address SERVER_CONNS config) (codes "FILE")
 
 -- A run that ended well made all its turns; a run that a fault ended made at most so many.
-abbrev pub MadeTurns : {A : Type 0} → Result A RunFault → ℕ → ℕ → Type 0
+abbrev pub MadeTurns : {A : Type 0} → Result A NodeFault → ℕ → ℕ → Type 0
 MadeTurns (Ok end) turns made = made ≡ turns
 MadeTurns (Err fault) turns made = made ≤ turns
 
@@ -40,6 +40,13 @@ module _ {S : Type 0} where
       station (server (listening_host config address) (replicate SERVER_CONNS new_serving) store) queue
       (record { packets = []; cap = TURN_ROOM })
 
+-- One turn at each of these moments, one after another, in which the link was asked just this.
+module _ {X : Type 0} (turn : ℕ → List Ask → X → X → Type 0) where
+  abbrev pub MakesTurns : List ℕ → List Ask → X → X → Type 0
+  MakesTurns [] asks first last = (asks ≡ []) × (last ≡ first)
+  MakesTurns (now ∷ moments) asks first last = (between : X) × (front behind : List Ask) × (asks ≡ front ++ behind)
+      × turn now front first between × MakesTurns moments behind between last
+
 module _ {S : Type 0} (changes : S → S → StoreChange) (carriage : Carriage) where
   -- One turn, at this moment, in which the link was asked just this. The turn waits for a datagram exactly where nothing
   -- in front can be served, and closes a connection whose peer acknowledged nothing for `SILENT_MILLIS`. A connection of this turn begins with the number of the moment.
@@ -51,10 +58,7 @@ module _ {S : Type 0} (changes : S → S → StoreChange) (carriage : Carriage) 
 
   -- One turn at each of these moments, one after another, in which the link was asked just this.
   abbrev pub ServesTurns : (ℕ → ℕ) → List ℕ → List Ask → Station (Server S) → Station (Server S) → Type 0
-  ServesTurns starts [] asks first last = (asks ≡ []) × (last ≡ first)
-  ServesTurns starts (now ∷ moments) asks first last = (between : Station (Server S)) × (front behind : List Ask)
-      × (asks ≡ front ++ behind) × ServesTurn starts now front first between
-      × ServesTurns starts moments behind between last
+  ServesTurns starts = MakesTurns (ServesTurn starts)
 
   -- A new service of this configuration and address made these turns on a store and over a link.
   abbrev pub ServesAt : (ℕ → ℕ) → List ℕ → List Ask → ConfigView → ℕ → S → S → Option QueueView → Option QueueView
@@ -66,7 +70,7 @@ module _ {S : Type 0} (changes : S → S → StoreChange) (carriage : Carriage) 
   -- However the run ended, as many turns were made as moments were read since it began: each turn at the moment that was
   -- read for it, in the order in which they were read. The link was asked what these turns asked, and nothing else.
   abbrev pub ServesBy : {A : Type 0} → (List ℕ → Type 0) → (List Ask → Type 0) → (ℕ → ℕ) → ConfigView → ℕ → ℕ → S → S
-      → Option QueueView → Option QueueView → Result A RunFault → Type 0
+      → Option QueueView → Option QueueView → Result A NodeFault → Type 0
   ServesBy read asked starts config turns address store store' queue queue' end = (moments : List ℕ) × (asks : List Ask)
       × read moments × asked asks × MadeTurns end turns (length moments)
       × ServesAt starts moments asks config address store store' queue queue'

@@ -1,8 +1,8 @@
 -- The sessions of a host's slots.
 use Rattle.std.specs.Prelude.{ℕ, ◌==◌, Bool, true, false, if◌then◌else◌, List, [], Option, Some, None, slice_index_or}
 use Rattle.chaos_file.specs.Session.{SessionView, new_session}
-use Rattle.chaos_serve.specs.declared.served.Served.{Served}
-use Rattle.chaos_serve.specs.declared.served.Served.TheVariants as told
+use Rattle.chaos_file.specs.declared.served.Served.{Served}
+use Rattle.chaos_file.specs.declared.served.Served.TheVariants as told
 
 -- a slot's session: the connection that it serves, whether that one's EOF was served, and the moment at which it was
 -- served first

@@ -7,9 +7,9 @@ use Rattle.chaos_host.specs.declared.slot.Slot.{Slot}
 use Rattle.chaos_host.specs.Slot.{named_slot}
 use Rattle.chaos_host.specs.Calls.{host_end, host_release}
 use Rattle.chaos_host.specs.View.{HostView, id_at}
-use Rattle.chaos_turn.specs.Link.{has_packets}
-use Rattle.chaos_turn.specs.Phase.{Effect, no_effect_on, effect_of, and_then, over_slots}
-use Rattle.chaos_turn.specs.Slots.{tick_at}
+use Rattle.chaos_node.specs.Link.{has_packets}
+use Rattle.chaos_node.specs.Phase.{Effect, no_effect_on, effect_of, and_then, over_slots}
+use Rattle.chaos_node.specs.Slots.{tick_at}
 use Rattle.file_server.specs.Sessions.{Serving, serving_at, without_files}
 
 -- A peer that stays silent has so many milliseconds since a moment to acknowledge something, or all the time. They are over.

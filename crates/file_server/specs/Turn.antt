@@ -5,10 +5,10 @@ use Rattle.chaos_packet.specs.Packet.{PacketView}
 use Rattle.chaos_file.specs.Store.{StoreChange}
 use Rattle.chaos_link.specs.Link.{Ask}
 use Rattle.chaos_link.specs.declared.carriage.Carriage.{Carriage}
-use Rattle.chaos_turn.specs.Arrive.{Arrival}
-use Rattle.chaos_turn.specs.Station.{Station}
-use Rattle.chaos_turn.specs.Turn.{GoesOver}
-use Rattle.chaos_turn.specs.declared.end.TurnEnd.{TurnEnd}
+use Rattle.chaos_node.specs.Arrive.{Arrival}
+use Rattle.chaos_node.specs.Station.{Station}
+use Rattle.chaos_node.specs.Turn.{GoesOver}
+use Rattle.chaos_node.specs.declared.end.TurnEnd.{TurnEnd}
 use Rattle.file_server.specs.Arrive.{arrive_at_server}
 use Rattle.file_server.specs.Serve.{ServesSlotsBy, Uses, plain_uses}
 use Rattle.file_server.specs.Server.{Server, after_giving_back, with_host}

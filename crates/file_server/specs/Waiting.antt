@@ -1,7 +1,7 @@
 -- Whether a turn has something to serve, so that it isn't to wait for a datagram.
 use Rattle.std.specs.Prelude.{zero, suc, ℕ, Bool, true, false, not, ◌&&◌, if◌then◌else◌, length, Option, Some, None}
 use Rattle.chaos_host.specs.View.{HostView, id_at}
-use Rattle.chaos_serve.specs.Calls.{can_serve}
+use Rattle.chaos_file.specs.ServeCalls.{can_serve}
 
 -- the connection with this index, where there is one, has something to serve
 abbrev pub serves_by : HostView → Option ℕ → Bool

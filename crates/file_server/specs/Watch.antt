@@ -1,6 +1,9 @@
 -- Which connections opened and ended between the looks at a server.
 use Rattle.std.specs.Prelude.{ℕ, zero, suc, ◌==◌, Bool, true, false, if◌then◌else◌, List, [], ◌∷◌, ◌++◌, Option, Some, None, option_map, Result, Ok, Err, slice_index_or, slice_set}
+use Rattle.std.specs.declared.net.socket_addr.SocketAddrV4.{SocketAddrV4}
 use Rattle.chaos_file.specs.declared.change.Change.{Change}
+use Rattle.chaos_link.specs.declared.report.LinkReport.{LinkReport}
+use Rattle.chaos_link.specs.declared.socket_fault.SocketFault.{SocketFault}
 use Rattle.chaos_conn.specs.Calls.{keeps_opn, peer_of}
 use Rattle.chaos_conn.specs.View.{ConnView}
 use Rattle.chaos_conn.specs.declared.state.End.{End}
@@ -13,12 +16,15 @@ use Rattle.file_server.specs.declared.log.Ending.{Ending}
 use Rattle.file_server.specs.declared.log.Ending.TheVariants.{Done, HostDown, Unacknowledged, Closed}
 use Rattle.file_server.specs.declared.watch.Seen.{Seen}
 
--- what a log is told: the peer of a connection that opened; of one that ended, the name that its user gave, and why; and of
--- one whose command changed a file or was refused, that name and the change
+-- What a log has: the peer of a connection that opened. Of a connection that ended, also the name that its user gave, and
+-- why it ended. Of a connection whose command changed a file or was refused, that name and the change. The host whose
+-- datagram came, and from which UDP address; and which call of a socket failed, and why.
 pub data Event : Type 0 where
   Opened : (peer : End) → Event
   Ended : (peer : End) → (login : Option (List ℕ)) → (ending : Ending) → Event
   Changed : (peer : End) → (login : Option (List ℕ)) → (change : Change) → Event
+  Heard : (address : ℕ) → (from : SocketAddrV4) → Event
+  Failed : (fault : SocketFault) → Event
 
 abbrev pub told_with : Event → Option (List Event) → Option (List Event)
 told_with event told = option_map (λ events. events ++ event ∷ []) told
@@ -31,6 +37,24 @@ told_ended peer login ending told = told_with (Ended peer login ending) told
 
 abbrev pub told_changed : End → Option (List ℕ) → Change → Option (List Event) → Option (List Event)
 told_changed peer login change told = told_with (Changed peer login change) told
+
+-- ---- what a link reports
+
+abbrev pub heard_from : ℕ → Option SocketAddrV4 → List Event
+heard_from address None = []
+heard_from address (Some from) = Heard address from ∷ []
+
+-- a datagram of this host came, where it is known from where
+abbrev pub told_heard : ℕ → LinkReport → Option (List Event) → Option (List Event)
+told_heard address report told = option_map (λ events. events ++ heard_from address report.source) told
+
+abbrev pub failed_by : Option SocketFault → List Event
+failed_by None = []
+failed_by (Some fault) = Failed fault ∷ []
+
+-- a turn is over, in which a call of the link's socket failed, or none
+abbrev pub told_turned : LinkReport → Option (List Event) → Option (List Event)
+told_turned report told = option_map (λ events. events ++ failed_by report.fault) told
 
 -- ---- one look
 
@@ -67,7 +91,7 @@ seen_of h id = record {
 abbrev pub seen_at : HostView → ℕ → Option Seen
 seen_at h place = option_map (seen_of h) (id_at h place)
 
--- ---- what a look tells beside the look before
+-- ---- what a look adds to the log, beside the look before
 
 -- its host down in the look before, an EOF that was served, a peer that had acknowledged nothing by the look before, or else
 -- its peer's doing
@@ -99,7 +123,7 @@ after_change was there serving told =
 
 -- ---- a look at each slot
 
--- what was seen in each slot, and what was told
+-- what was seen in each slot, and what was logged
 pub record Watched : Type 0 where
   pub seen : List (Option Seen)
   pub told : Option (List Event)

@@ -2,15 +2,17 @@
 //! nothing, are closed; those that ended are released. Each function of a turn answers whether
 //! packets went out.
 ghost use Rattle.std.specs.Prelude.{◌≡◌, ◌<◌, false, length};
-ghost use Rattle.chaos_turn.specs.InTurn.{TurnDoes};
-ghost use Rattle.chaos_turn.specs.Phase.{over_slots};
-ghost use Rattle.file_server.specs.Slots.{EndsNothing, EndsNothingAt, close_at, end_phases, is_late, is_over, release_at};
+ghost use Rattle.chaos_conn.specs.State.{is_ended};
+ghost use Rattle.chaos_node.specs.InTurn.{TurnDoes};
+ghost use Rattle.chaos_node.specs.Phase.{over_slots};
+ghost use Rattle.file_server.specs.Sessions.{serving_at};
+ghost use Rattle.file_server.specs.Slots.{EndsNothing, close_at, end_phases, is_late, is_over, release_at};
 
 use crate::sessions::Sessions;
 use chaos_conn::Conn;
 use chaos_host::Host;
 use chaos_link::Link;
-use chaos_turn::{Turn, any_of, send_all};
+use chaos_node::{Turn, any_of, send_all};
 
 /// The last phases of a turn: connections that are over are closed, those that ended are released,
 /// and what is due in each slot is done.
@@ -39,23 +41,24 @@ fn may_any_end(host: &Host, sessions: &Sessions, silence: Option<u64>, now: u64)
     ensures { result ≡ false
         → EndsNothing silence now sessions.now host.now (length host.now.slots) }
 {
-    for place in 0..host.conns() {
-        if may_end(host, sessions, place, silence, now) {
+    let mut from = 0;
+    'slots: while let Some((place, _, conn)) = host.next_conn(from) {
+        if may_end(conn, sessions, place, silence, now) {
             return true;
         }
+        from = place + 1;
     }
     false
 }
 
-/// Whether the connection in a slot may have to be closed or released: its EOF was served, or it is
-/// late and its peer has acknowledged nothing, or it has ended.
-fn may_end(host: &Host, sessions: &Sessions, place: usize, silence: Option<u64>, now: u64) -> bool
+/// Whether a connection may have to be closed or released, by what its slot's session holds: its EOF
+/// was served, or it is late and its peer has acknowledged nothing, or it has ended.
+fn may_end(conn: &Conn, sessions: &Sessions, place: usize, silence: Option<u64>, now: u64) -> bool
     requires { place < length sessions.now }
-    ensures { result ≡ false → EndsNothingAt silence now sessions.now host.now place }
+    ensures on { result ≡ false → is_over (serving_at sessions.now place).eof
+        (is_late silence (serving_at sessions.now place).since now) conn.now ≡ false }
+    ensures lives { result ≡ false → is_ended conn.now.state ≡ false }
 {
-    let Some((_, conn)) = host.conn_at(place) else {
-        return false;
-    };
     let is_late = conn.keeps_opn() && is_late(silence, sessions.since(place), now);
     sessions.eof(place) || is_late || conn.state().is_ended()
 }
@@ -72,8 +75,10 @@ pub(crate) fn close_slots<L: Link>(
         turn.old.host.now) result }
 {
     let mut sent = false;
-    for place in 0..turn.host.conns() {
+    let mut from = 0;
+    'slots: while let Some(place) = turn.host.next_in_use(from) {
         sent = close_slot(turn, sessions, place, silence) || sent;
+        from = place + 1;
     }
     sent
 }
@@ -124,14 +129,16 @@ pub fn release_slots<L: Link>(turn: &mut Turn<'_, L>) -> bool
         (over_slots release_at (length turn.old.host.now.slots) turn.old.host.now) result }
 {
     let mut sent = false;
-    for place in 0..turn.host.conns() {
+    let mut from = 0;
+    'slots: while let Some(place) = turn.host.next_in_use(from) {
         sent = release_slot(turn, place) || sent;
+        from = place + 1;
     }
     sent
 }
 
 /// Releases the connection in a slot, where it has ended.
-#[tactic(auto, using(chaos_turn::proofs::Phase::put_into_empty))]
+#[tactic(auto, using(chaos_node::proofs::Phase::put_into_empty))]
 fn release_slot<L: Link>(turn: &mut Turn<'_, L>, place: usize) -> bool
     ensures { TurnDoes turn.old turn.new (release_at place turn.old.host.now) result }
 {

@@ -1,10 +1,10 @@
-//! A server of FILE over a link: a session for each slot of a host, the server's turn, and the
-//! engine `serve`.
+//! A server of FILE over a link: a session for each slot of a host, the server's turn, and a whole
+//! service.
 //!
 //! [`run_turn`] is one turn: what came is delivered, requests for FILE are accepted, each slot is
-//! served once, and what is due is done. [`Server`] has what a service needs for such turns, and
-//! [`run_serve`] makes them by a clock. [`run_serve_by`] makes each turn at the next moment of a
-//! source, and notes in a [`Log`] which connections opened and ended.
+//! served once, and what is due is done. [`Server`] has what a service needs for such turns.
+//! [`run_serve_by`] makes each turn at the next moment of a source, and notes in a [`Log`] which
+//! connections opened and ended.
 //!
 //! A turn reads no clock (the moment is handed in). It waits for a datagram only where its caller
 //! lets it, as its link does: [`can_serve_any`] says whether a server is to. The host and
@@ -27,8 +27,8 @@ mod waiting;
 mod watch;
 
 pub use limits::law_limits;
-pub use log::{Ending, Log, Silent};
-pub use serve_run::{ServeOptions, run_serve, run_serve_by};
+pub use log::{Ending, LinkLog, Log, Silent};
+pub use serve_run::{ServeOptions, run_serve_by};
 pub use server::Server;
 pub use sessions::Sessions;
 pub use turn::run_turn;

@@ -1,9 +1,12 @@
-//! The log of a server's connections, and of what their commands changed.
+//! The log of a server's connections, of what their commands changed, and of what its link reports.
 ghost use Rattle.std.specs.Prelude.{◌≡◌, List, Option, option_map};
-ghost use Rattle.file_server.specs.Watch.{Event, told_changed, told_opened, told_ended};
+ghost use Rattle.chaos_link.specs.declared.report.LinkReport.{LinkReport};
+ghost use Rattle.file_server.specs.Logged.{told_arrival};
+ghost use Rattle.file_server.specs.Watch.{Event, told_changed, told_ended, told_heard, told_opened, told_turned};
 
 use chaos_conn::End;
 use chaos_file::{Cause, Change};
+use chaos_link::{LinkFault, Packets};
 
 /// Why a connection ended, as far as its host knows.
 #[derive(Clone, Copy, Debug, PartialEq, Eq)]
@@ -55,6 +58,41 @@ pub trait Log {
             (told self.old) };
 }
 
+/// A log that also gets what a server's link reports.
+pub trait LinkLog<L>: Log {
+    /// What the log reads of the link's report. A log that reads none has nothing of it.
+    ghost reads: { L → LinkReport };
+
+    /// A datagram came over the link. Its first packet is of the host with this address.
+    fn heard(&mut self, link: &L, address: u16)
+        // The log holds the host, and from where its datagram came by the link's report, behind all
+        // that it held before. It holds nothing more where the report has no source.
+        ensures { Self.told self.new
+            ≡ told_heard address (reads link.now) (Self.told self.old) };
+
+    /// A turn over the link is over.
+    fn turned(&mut self, link: &L)
+        // The log holds the fault that the link reports, if any, behind all that it held before.
+        ensures { Self.told self.new ≡ told_turned (reads link.now) (Self.told self.old) };
+}
+
+/// Logs whose datagram came, where a host's did.
+pub(crate) fn log_arrival<L, G: LinkLog<L>>(
+    log: &mut G,
+    link: &L,
+    came: &Option<Result<Packets<'_>, LinkFault>>,
+)
+    ensures { G.told log.new ≡ told_arrival came.now (G.reads link.now) (G.told log.old) }
+{
+    let Some(Ok(packets)) = came else {
+        return;
+    };
+    match packets.source() {
+        Some(address) if address != 0 => log.heard(link, address),
+        _ => {}
+    }
+}
+
 /// A log that keeps nothing, and promises nothing.
 #[derive(Drop)]
 pub struct Silent;
@@ -75,4 +113,14 @@ impl Log for Silent {
         change: &Change,
         cause: Option<Cause<'_>>,
     ) {}
+}
+
+impl<L> LinkLog<L> for Silent {
+    ghost use Rattle.std.specs.Prelude.{None};
+
+    ghost reads = { λ _. record { source = None; fault = None } };
+
+    fn heard(&mut self, link: &L, address: u16) {}
+
+    fn turned(&mut self, link: &L) {}
 }

@@ -13,7 +13,7 @@ use crate::sessions::Sessions;
 use crate::terms::Terms;
 use chaos_file::Store;
 use chaos_link::{Link, LinkFault, Packets};
-use chaos_turn::{Turn, any_of};
+use chaos_node::{Turn, any_of};
 
 /// Makes a turn of what came. Says whether packets went out.
 pub(crate) fn take_turn<S: Store, L: Link, G: Log>(

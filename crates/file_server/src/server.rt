@@ -2,20 +2,18 @@
 ghost use Rattle.std.specs.Prelude.{◌≡◌, ◌<◌, ◌↔◌, length, IfErr};
 
 use crate::limits::{SERVER_CONNS, SILENT_MILLIS};
-use crate::log::Log;
+use crate::log::{LinkLog, Log, log_arrival};
 use crate::phases::take_turn;
 use crate::sessions::Sessions;
 use crate::terms::Terms;
 use crate::waiting::waits;
 use crate::watch::Watch;
 use chaos_conn::ConnConfig;
-use chaos_file::Store;
+use chaos_file::{CONTACT, Store};
 use chaos_host::Host;
 use chaos_link::{Carriage, Link};
+use chaos_node::{Node, NodeFault, Turn, TurnEnd, begin, end_of};
 use chaos_packet::PktNum;
-use chaos_serve::CONTACT;
-use chaos_turn::{Node, Turn, TurnEnd, begin, end_of};
-use chaosd_io::RunFault;
 use std::alloc::Global;
 
 /// A node that listens to FILE, with a session for each of its host's connections.
@@ -35,10 +33,10 @@ impl Server {
     ghost use Rattle.chaos_file.specs.Store.{change};
     ghost use Rattle.chaos_packet.specs.Count.{Rose};
     ghost use Rattle.chaos_link.specs.Link.{Asks};
-    ghost use Rattle.chaos_turn.specs.declared.limits.TheConstants.{TURN_ROOM};
+    ghost use Rattle.chaos_node.specs.declared.limits.TheConstants.{TURN_ROOM};
     ghost use Rattle.file_server.specs.Sessions.{new_serving};
     ghost use Rattle.file_server.specs.declared.limits.TheConstants.{SILENT_MILLIS};
-    ghost use Rattle.file_server.specs.Logged.{LogsTurn};
+    ghost use Rattle.file_server.specs.Logged.{IsReadOf, LogsTurn};
     ghost use Rattle.file_server.specs.Service.{listening_host, service_of};
     ghost use Rattle.file_server.specs.Turn.{RunsTurn};
     ghost use Rattle.file_server.specs.Waiting.{waits};
@@ -54,10 +52,10 @@ impl Server {
         address: u16,
         config: ConnConfig,
         carriage: Carriage,
-    ) -> Result<Self, RunFault>
+    ) -> Result<Self, NodeFault>
         requires { 0 < address }
         // It fails only when out of memory.
-        ensures faults { IfErr result (λ fault. fault ≡ RunFault.NoMemory) }
+        ensures faults { IfErr result (λ fault. fault ≡ NodeFault.NoMemory) }
         // The host listens to FILE and nothing else, at this address, with `SERVER_CONNS`
         // connections of this configuration to come.
         ensures host { IfOk result (λ server. server.node.host ≡ listening_host config address) }
@@ -71,11 +69,11 @@ impl Server {
         ensures carriage { IfOk result (λ server. server.node.carriage ≡ carriage) }
     {
         let Ok(mut host) = Host::new(alloc, address, SERVER_CONNS, config) else {
-            return Err(RunFault::NoMemory);
+            return Err(NodeFault::NoMemory);
         };
         let _ = host.listen(CONTACT);
         let Ok(sessions) = Sessions::new(alloc, SERVER_CONNS) else {
-            return Err(RunFault::NoMemory);
+            return Err(NodeFault::NoMemory);
         };
         match Node::new(alloc, host, carriage) {
             Ok(node) => Ok(Server {
@@ -83,7 +81,7 @@ impl Server {
                 sessions,
                 alloc,
             }),
-            Err(_) => Err(RunFault::NoMemory),
+            Err(_) => Err(NodeFault::NoMemory),
         }
     }
 
@@ -91,7 +89,7 @@ impl Server {
     /// whose peer acknowledged nothing in the first 30 seconds. A new connection numbers what it
     /// writes from `start` on. If nothing in front is to be served, the turn may wait for a
     /// datagram, where `may_wait` allows it. The log gets what each command changed.
-    pub fn turn<S: Store, L: Link, G: Log>(
+    pub fn turn<S: Store, L: Link, G: LinkLog<L>>(
         &mut self,
         store: &mut S,
         link: &mut L,
@@ -111,11 +109,15 @@ impl Server {
             (Asks (L.asked link.old) (L.asked link.new)) (waits may_wait self.old.node.host)
             self.old.node.carriage start now (service_of self.old store.old (L.queue link.old))
             (service_of self.new store.new (L.queue link.new)) result }
-        // The turn logged what each command that it served changed, in the order in which it served
-        // them. The log has the peer of the connection whose command it was, the name that this
-        // connection's user gave, and the change by the whole promise of `Session::apply_into`. For
-        // all else that the turn did, it logged nothing.
+        // The turn logged first which host's datagram came, by the datagram's first packet, and
+        // from which UDP address. That is what the log reads of the link, after the link was asked
+        // to send what waited and then once to receive. Then the turn logged what each command that
+        // it served changed, in the order in which it served them. The log has the peer of the
+        // connection whose command it was, the name that this connection's user gave, and the
+        // change by the whole promise of `Session::apply_into`. For all else that the turn did, it
+        // logged nothing.
         ensures logs { LogsTurn (change S.contents S.may_give S.count) (Some SILENT_MILLIS)
+            (IsReadOf G.reads (λ at. Asks (L.asked link.old) (L.asked at)))
             (Asks (L.asked link.old) (L.asked link.new)) (waits may_wait self.old.node.host)
             self.old.node.carriage start now
             (service_of self.old (store.old, G.told log.old) (L.queue link.old))
@@ -127,6 +129,7 @@ impl Server {
         let node = &mut self.node;
         let carriage = node.carriage;
         let begun = begin(link, &mut node.out, carriage, &mut node.buffer, may_wait);
+        log_arrival(log, &*link, &begun.came);
         let mut turn = Turn {
             host: &mut node.host,
             link,

@@ -2,8 +2,8 @@
 ghost use Rattle.std.specs.Prelude.{◌≡◌, ◌<◌, ◌≤◌, ℕ, Some, false, length, true};
 ghost use Rattle.chaos_packet.specs.Outbox.{room_of};
 ghost use Rattle.chaos_file.specs.Store.{change};
-ghost use Rattle.chaos_serve.specs.Calls.{is_served};
-ghost use Rattle.chaos_serve.specs.Work.{work_of};
+ghost use Rattle.chaos_file.specs.ServeCalls.{is_served};
+ghost use Rattle.chaos_file.specs.ServeWork.{work_of};
 ghost use Rattle.file_server.specs.InTurn.{ServerTurnDoes};
 ghost use Rattle.file_server.specs.Logged.{logged_uses, report_use, told_made};
 ghost use Rattle.file_server.specs.Serve.{DoesKept, ServesSlotBy, ServesSlotsBy, SessionServesBy};
@@ -11,15 +11,13 @@ ghost use Rattle.file_server.specs.Sessions.{serving_of};
 
 use crate::log::Log;
 use crate::sessions::{Kept, Sessions};
-use crate::terms::At;
 use crate::watch::peer_of;
 use chaos_conn::{Conn, End};
-use chaos_file::{Cause, Change, Store};
+use chaos_file::{Cause, Change, ServeAt, Store, can_serve_conn, serve_and_report};
 use chaos_host::{ConnId, Host};
 use chaos_link::Link;
+use chaos_node::{Turn, send_all};
 use chaos_packet::Outbox;
-use chaos_serve::{can_serve_conn, serve_and_report};
-use chaos_turn::{Turn, send_all};
 use std::alloc::Global;
 
 /// Serves each slot once, in rising order, and logs what each command changed. Says whether packets
@@ -38,7 +36,14 @@ pub fn serve_slots<S: Store, L: Link, G: Log>(
         (store.new, G.told log.new) result }
 {
     let mut sent = false;
-    for place in 0..turn.host.conns() {
+    let mut from = 0;
+    'slots: while let Some(at) = turn.host.next_conn(from) {
+        let place = at.0;
+        from = place + 1;
+        // Most slots of most turns: one look is all that they cost.
+        if has_nothing(&sessions.kept[place], at.1, at.2) {
+            continue 'slots;
+        }
         sent = serve_slot(turn, sessions, store, place, alloc, log) || sent;
     }
     sent
@@ -59,22 +64,17 @@ fn serve_slot<S: Store, L: Link, G: Log>(
         (ServesSlotBy (logged_uses (change S.contents S.may_give S.count)) turn.old.now place)
         sessions.old sessions.new (store.old, G.told log.old) (store.new, G.told log.new) result }
 {
-    let Some(at) = turn.host.conn_at(place) else {
+    let Some(id) = turn.host.id_of(place) else {
         return false;
     };
-    let id = at.0;
     let kept = &mut sessions.kept[place];
-    // Most slots of most turns: nothing is looked up twice for them.
-    if has_nothing(kept, id, at.1) {
-        return false;
-    }
-    let at = At {
+    let at = ServeAt {
         alloc,
         moment: turn.now,
     };
     let peer = peer_of(turn.host, id);
     let made = serve_kept(turn.host, id, kept, store, turn.out, &at);
-    tell_made(log, peer, kept, &made, store.cause());
+    log_made(log, peer, kept, &made, store.cause());
     send_all(turn.link, turn.out, turn.carriage)
 }
 
@@ -88,7 +88,7 @@ fn has_nothing(kept: &Kept, id: ConnId, conn: &Conn) -> bool
 }
 
 /// Logs what a command changed, where it changed anything or was refused.
-fn tell_made<G: Log>(
+fn log_made<G: Log>(
     log: &mut G,
     peer: End,
     kept: &Kept,
@@ -110,7 +110,7 @@ fn serve_kept<S: Store>(
     kept: &mut Kept,
     store: &mut S,
     out: &mut Outbox,
-    at: &At,
+    at: &ServeAt,
 ) -> Option<Change>
     requires { 2 ≤ room_of out.old }
     ensures { SessionServesBy
@@ -122,7 +122,7 @@ fn serve_kept<S: Store>(
     kept.turn_to(id, at.moment);
     kept.may_hold = true;
     let session = &mut *kept.session;
-    let (served, made) = serve_and_report(at.alloc, host, id, session, store, at.moment, out);
+    let (served, made) = serve_and_report(at, host, id, session, store, out);
     kept.note(served);
     made
 }

@@ -4,9 +4,8 @@ ghost use Rattle.chaos_host.specs.View.{id_at};
 ghost use Rattle.file_server.specs.Sessions.{Serving, new_serving, serving_at, serving_of, eof_after, without_files};
 ghost use Rattle.file_server.specs.Slots.{given_back, given_back_at};
 
-use chaos_file::Session;
+use chaos_file::{Served, Session};
 use chaos_host::{ConnId, Host};
-use chaos_serve::Served;
 use std::alloc::{AllocError, Global};
 use std::marker::Model;
 
@@ -203,7 +202,7 @@ impl Kept {
         self.may_hold = false;
     }
 
-    /// Keeps that an EOF was served, or counts a command.
+    /// Keeps that an EOF was served, or counts a command; and keeps whether files are open.
     pub(crate) fn note(&mut self, served: Served)
         ensures { self.new ≡ record self.old { eof = eof_after self.old.eof served } }
     {
@@ -212,5 +211,6 @@ impl Kept {
             Served::Replied => self.commands = self.commands.saturating_add(1),
             _ => {}
         }
+        self.may_hold = self.session.open_files() > 0;
     }
 }

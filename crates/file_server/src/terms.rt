@@ -14,12 +14,3 @@ pub(crate) struct Terms {
     /// is heard.
     pub(crate) silence: Option<u64>,
 }
-
-/// What serving a connection takes beside it.
-#[derive(Drop)]
-pub(crate) struct At {
-    /// Where memory is taken.
-    pub(crate) alloc: Global,
-    /// The moment, in milliseconds.
-    pub(crate) moment: u64,
-}

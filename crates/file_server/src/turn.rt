@@ -6,7 +6,7 @@ ghost use Rattle.std.specs.Prelude.{◌≡◌, ◌≤◌, ◌↔◌, [], length,
 ghost use Rattle.chaos_packet.specs.Count.{Rose};
 ghost use Rattle.chaos_file.specs.Store.{change};
 ghost use Rattle.chaos_link.specs.Link.{Asks};
-ghost use Rattle.chaos_turn.specs.Station.{station};
+ghost use Rattle.chaos_node.specs.Station.{station};
 ghost use Rattle.file_server.specs.Server.{server};
 ghost use Rattle.file_server.specs.Turn.{RunsTurn};
 
@@ -17,8 +17,8 @@ use crate::terms::Terms;
 use chaos_file::Store;
 use chaos_host::Host;
 use chaos_link::{Carriage, LINK_ROOM, Link};
+use chaos_node::{TURN_ROOM, Turn, TurnEnd, begin, end_of};
 use chaos_packet::{Outbox, PktNum};
-use chaos_turn::{TURN_ROOM, Turn, TurnEnd, begin, end_of};
 use std::alloc::Global;
 
 /// One turn of a server of FILE: it sends what waits, receives at most one datagram, and does what
@@ -49,8 +49,8 @@ use std::alloc::Global;
 /// the turn ends by `Worked` where a datagram came or a packet was sent, and by `Idle` where not.
 ///
 /// The sessions are as many as the host's slots, and the outbox has room for [`TURN_ROOM`] packets
-/// at least. A turn walks over the slots four times, twice more where a connection may end, and an
-/// RFC once more. No memory is taken but by [`chaos_file::Session::apply`].
+/// at least. A turn walks over the slots in use three times, twice more where a connection may end, and
+/// over all slots once; an RFC once more. No memory is taken but by [`chaos_file::Session::apply`].
 pub fn run_turn<S: Store, L: Link>(
     alloc: Global,
     host: &mut Host,

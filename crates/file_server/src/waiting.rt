@@ -3,8 +3,8 @@ ghost use Rattle.std.specs.Prelude.{◌≡◌, ◌<◌, length};
 ghost use Rattle.chaos_host.specs.View.{id_at};
 ghost use Rattle.file_server.specs.Waiting.{can_serve_any, serves_by, waits};
 
+use chaos_file::can_serve;
 use chaos_host::Host;
-use chaos_serve::can_serve;
 
 /// Whether the connection in a slot has something to serve.
 fn serves_at(host: &Host, place: usize) -> bool
@@ -18,16 +18,19 @@ fn serves_at(host: &Host, place: usize) -> bool
 
 /// Whether any connection has something to serve: a command in front for whose reply there is room,
 /// or an EOF. If so, a server's turn over the host must not wait for a datagram. The cost is a look
-/// at each slot.
+/// at each slot in use, up to the first that has something.
 pub fn can_serve_any(host: &Host) -> bool
     // The result says whether any connection of the host has something to serve.
     ensures { result ≡ can_serve_any host.now }
 {
-    let mut found = false;
-    for place in 0..host.conns() {
-        found = found || serves_at(host, place);
+    let mut from = 0;
+    'slots: while let Some(place) = host.next_in_use(from) {
+        if serves_at(host, place) {
+            return true;
+        }
+        from = place + 1;
     }
-    found
+    false
 }
 
 /// Whether a turn of this host waits for a datagram: where its caller lets it, and no connection

@@ -1,5 +1,5 @@
 //! Which connections of a server open and end.
-ghost use Rattle.std.specs.Prelude.{◌≡◌, ◌<◌, length};
+ghost use Rattle.std.specs.Prelude.{◌≡◌, ◌<◌, None, length, replicate};
 ghost use Rattle.chaos_host.specs.View.{host_look};
 ghost use Rattle.file_server.specs.Sessions.{serving_at};
 ghost use Rattle.file_server.specs.Watch.{after_change, ending_of, is_down, is_same, is_unacknowledged, peer_at, seen_at, watched, watched_at};
@@ -29,7 +29,9 @@ pub struct Watch {
 
 impl Watch {
     /// No connection was seen yet: the server has made no turn.
-    pub fn new() -> Self {
+    pub fn new() -> Self
+        ensures { result.seen ≡ replicate SERVER_CONNS None }
+    {
         Watch {
             seen: [None; SERVER_CONNS],
         }
@@ -44,7 +46,7 @@ impl Watch {
             ≡ watched_at host.now sessions.now place (watched self.old.seen (G.told log.old)) }
     {
         let there = seen_at(host, place);
-        tell_change(&self.seen[place], &there, sessions, place, log);
+        log_change(&self.seen[place], &there, sessions, place, log);
         self.seen[place] = there;
     }
 }
@@ -123,7 +125,7 @@ fn ending_of(is_down: bool, eof: bool, is_unacknowledged: bool) -> Ending
 }
 
 /// Logs what changed in a slot since the last look.
-fn tell_change<G: Log>(
+fn log_change<G: Log>(
     was: &Option<Seen>,
     there: &Option<Seen>,
     sessions: &Sessions,

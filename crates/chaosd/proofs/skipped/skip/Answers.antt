@@ -3,4 +3,4 @@ use Rattle.std.proofs.lemmas.Fn.{filter_same}
 use Rattle.chaosd.proofs.skipped.skip.Goals as goal
 
 pub returns-clause-names : goal.returns-clause-names
-returns-clause-names c = filter_same _ _ _ (λ x b f' k. search rules) _ _ c.retain.ensures.filtered
+returns-clause-names g c = filter_same _ _ _ (λ x b f' k. search rules) _ _ c.retain.ensures.filtered

@@ -4,7 +4,7 @@ use Rattle.chaos_lab.specs.declared.fault.LabFault.TheVariants.{NoMemory}
 use Rattle.chaos_lab.specs.Inside.{happening_of}
 use Rattle.chaos_lab.specs.Laboratory.{LabView, Happening}
 use Rattle.chaos_lab.specs.SettlingLeft.{left}
-use Rattle.chaosd_script.proofs.Plays.{waits_more}
+use Rattle.chaosd_lab.proofs.Plays.{waits_more}
 use Rattle.chaosd_lab.specs.Answers.{refusal_text}
 use Rattle.chaosd_lab.specs.Happen.{event_text}
 use Rattle.chaosd_lab.specs.Typed.{event_line}

@@ -1,6 +1,6 @@
 use Rattle.std.proofs.Common.{rules, ◌≡◌, false}
 use Rattle.chaosd_io.proofs.Runs.{went_well}
-use Rattle.chaosd_script.proofs.Plays.{waits_more}
+use Rattle.chaosd_lab.proofs.Plays.{waits_more}
 use Rattle.chaosd_lab.proofs.Settling.{refused_line}
 use Rattle.chaosd_lab.proofs.settle.settle.Goals as goal
 

@@ -1,34 +1,25 @@
--- The path of each text in its turn is that of a later one or not.
-use Rattle.std.proofs.Common.{◌∙◌, ◌+◌, ◌&&◌, ℕ, List, [], ap, drop, map, not, option_map, sym}
-use Rattle.std.specs.Borrow.{Bor}
-use Rattle.chaosd_line.specs.Files.{are_apart, goes_same, is_same_path, path_for}
+-- The path of each file in its turn is that of a later one or not.
+use Rattle.std.proofs.Common.{◌∙◌, ◌+◌, ◌&&◌, ap, drop, get_or, map, not, refl, sym}
+use Rattle.chaosd_line.specs.Files.{are_apart, file_view, has_same_path}
 use Rattle.chaosd_line.proofs.Named.{apart_at}
 use Rattle.chaosd_line.proofs.paths.are_apart.Goals as goal
-
-abbrev text : Bor (List ℕ) → List ℕ
-text t = t.now
-
-abbrev none : Bor (List ℕ)
-none = record { ref_ptr = (0, 0); now = [] }
 
 pub returns-then-is_taken : goal.returns-then-is_taken
 returns-then-is_taken c =
     sym (c.loop-i.invariant
-    ∙ apart_at (goes_same c.args.is_renaming) text c.args.texts.now c.loop-i.i none
-    (λ u. is_same_path (path_for c.args.is_renaming (text u)) (option_map (λ p. p.items) c.path_for-path.result))
-    c.is_taken.result
-    c.loop-i-test.true (ap (λ o u. is_same_path (path_for c.args.is_renaming (text u)) o) c.path_for-path.ensures)
+    ∙ apart_at has_same_path file_view c.args.files.now c.loop-i.i c.index-files-i.result
+    (λ u. has_same_path (file_view u) (file_view (get_or c.args.files.now c.loop-i.i c.index-files-i.result))) c.is_taken.result
+    c.loop-i-test.true refl
     c.is_taken.ensures
-    ∙ ap (λ b. not b && are_apart (goes_same c.args.is_renaming) (map text (drop (c.loop-i.i + 1) c.args.texts.now)))
+    ∙ ap (λ b. not b && are_apart has_same_path (map file_view (drop (c.loop-i.i + 1) c.args.files.now)))
     c.if-is_taken.true)
 
 pub loop-i-preserved : goal.loop-i-preserved
 loop-i-preserved c =
     c.loop-i.invariant
-    ∙ apart_at (goes_same c.args.is_renaming) text c.args.texts.now c.loop-i.i none
-    (λ u. is_same_path (path_for c.args.is_renaming (text u)) (option_map (λ p. p.items) c.path_for-path.result))
-    c.is_taken.result
-    c.loop-i-test.true (ap (λ o u. is_same_path (path_for c.args.is_renaming (text u)) o) c.path_for-path.ensures)
+    ∙ apart_at has_same_path file_view c.args.files.now c.loop-i.i c.index-files-i.result
+    (λ u. has_same_path (file_view u) (file_view (get_or c.args.files.now c.loop-i.i c.index-files-i.result))) c.is_taken.result
+    c.loop-i-test.true refl
     c.is_taken.ensures
-    ∙ ap (λ b. not b && are_apart (goes_same c.args.is_renaming) (map text (drop (c.loop-i.i + 1) c.args.texts.now)))
+    ∙ ap (λ b. not b && are_apart has_same_path (map file_view (drop (c.loop-i.i + 1) c.args.files.now)))
     c.if-is_taken.false

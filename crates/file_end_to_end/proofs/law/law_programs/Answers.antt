@@ -1,6 +1,6 @@
 use Rattle.chaos_link.specs.Link.{Asks}
 use Rattle.chaos_file.specs.Store.{change}
-use Rattle.chaos_system.proofs.Behind.{new_systems_stand, stays, systems_hold}
+use Rattle.chaos_net.proofs.Behind.{new_systems_stand, stays, systems_hold}
 use Rattle.file_end_to_end.specs.Program.{program_host, program_turns, program_upon}
 use Rattle.file_end_to_end.proofs.Programs.{client_turns_are_steps, program_turns_are_runs, server_turns_are_steps}
 use Rattle.file_end_to_end.proofs.law.law_programs.Goals as goal

@@ -1,7 +1,7 @@
 use Rattle.std.proofs.Common.{refl}
-use Rattle.chaosd_copy.specs.Ends.{tids_from}
-use Rattle.chaosd_copy.specs.Row.{file_handle}
-use Rattle.chaosd_copy.specs.Talk.{silence}
+use Rattle.file_copy.specs.Ends.{tids_from}
+use Rattle.file_copy.specs.Row.{file_handle}
+use Rattle.file_copy.specs.Talk.{silence}
 use Rattle.file_client.specs.Talk.{told_none}
 use Rattle.file_net.specs.Copies.{Get}
 use Rattle.file_end_to_end.specs.Over.{engine_of, pace_of}
@@ -15,5 +15,5 @@ returns g c =
     done_then c.get_file.result _ _
     (λ since. copies_in_worlds g.C.Dial.shows g.L.Link.queue g.L.Link.asked g.S.Store.contents g.S.Store.may_give g.S.Store.count old new (Get (tids_from c.args.first) file_handle c.args.path.now c.get_file.new.bytes.items)
     (since.goes old silence
-    (refl, refl, told_none (pace_of g.C.Dial.shows old) (g.L.Link.asked old.turns.link.now old.turns.link.now) (engine_of g.L.Link.queue old) old.client.now (g.L.Link.began old.turns.link.now))).2)
+    (refl, told_none (pace_of g.C.Dial.shows old) (g.L.Link.asked old.driver.link.now old.driver.link.now) (engine_of g.L.Link.queue old) old.host.now.now (g.L.Link.began old.driver.link.now))).1)
     c.get_file.ensures.done

@@ -1,7 +1,7 @@
 use Rattle.std.proofs.Common.{ℕ, true, if◌then◌else◌, length, refl}
-use Rattle.chaos_turn.specs.Phase.{and_then, over_slots}
-use Rattle.chaos_turn.specs.Slots.{tick_at}
-use Rattle.chaos_turn.proofs.InTurn.{then_all_slots}
+use Rattle.chaos_node.specs.Phase.{and_then, over_slots}
+use Rattle.chaos_node.specs.Slots.{tick_at}
+use Rattle.chaos_node.proofs.InTurn.{then_all_slots}
 use Rattle.file_server.specs.Slots.{close_at, release_at}
 use Rattle.file_server.proofs.Idle.{ticks_alone}
 use Rattle.file_server.proofs.ending.end_slots.Goals as goal

@@ -1,5 +1,5 @@
 use Rattle.std.proofs.Common.{refl, rules, sym}
-use Rattle.chaos_turn.specs.InTurn.{station_of}
+use Rattle.chaos_node.specs.InTurn.{station_of}
 use Rattle.file_server.proofs.Idle.{goes_on}
 use Rattle.file_server.proofs.ending.release_slot.Goals as goal
 

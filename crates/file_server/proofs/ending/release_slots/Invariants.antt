@@ -1,7 +1,14 @@
-use Rattle.chaos_turn.specs.InTurn.{TurnDoes}
-use Rattle.chaos_turn.specs.Phase.{over_slots}
+use Rattle.std.proofs.Common.{◌-◌, ◌≤◌, length}
+use Rattle.chaos_node.specs.InTurn.{TurnDoes}
+use Rattle.chaos_node.specs.Phase.{over_slots}
 use Rattle.file_server.specs.Slots.{release_at}
 use Rattle.file_server.proofs.ending.release_slots.Given as goal
 
-abbrev pub invariant-loop-place : goal.invariant-loop-place
-invariant-loop-place g l = TurnDoes l.fn.turn l.turn (over_slots release_at l.place l.fn.turn.host.now) l.sent
+abbrev pub invariant-slots : goal.invariant-slots
+invariant-slots g l = record {
+  within : l.from ≤ length l.fn.turn.host.now.slots;
+  done : TurnDoes l.fn.turn l.turn (over_slots release_at l.from l.fn.turn.host.now) l.sent;
+}
+
+abbrev pub decreases-slots : goal.decreases-slots
+decreases-slots g l = length l.fn.turn.host.now.slots - l.from

@@ -1,9 +1,16 @@
 use Rattle.std.proofs.Common.{◌≡◌, ◌∙◌, ◌+◌, Ok, Err, refl, ap, arith, rules}
 use Rattle.chaos_link.specs.Link.{Asks}
-use Rattle.chaosd_clock.specs.Moments.{Reads}
-use Rattle.chaosd_io.specs.declared.fault.RunFault.TheVariants.{LinkFault}
+use Rattle.chaos_node.specs.Moments.{Reads}
+use Rattle.chaos_node.specs.declared.fault.NodeFault.TheVariants.{Link}
+use Rattle.std.specs.Prelude.{List, Option, length, min}
+use Rattle.chaos_file.specs.Store.{change}
+use Rattle.file_server.specs.Logged.{IsReadOf}
+use Rattle.file_server.specs.LoggedRun.{new_logged}
 use Rattle.file_server.specs.Service.{new_service, service_of}
-use Rattle.file_server.proofs.Served.{made_to_fault, served_by, served_next, served_none, served_still}
+use Rattle.file_server.specs.Watch.{Event, watched, watched_slots}
+use Rattle.file_server.specs.declared.limits.TheConstants.{SERVER_CONNS}
+use Rattle.file_server.proofs.LoggedRun.{logged_by, logs_turn}
+use Rattle.file_server.proofs.Served.{made_next, made_none, made_still, made_to_fault, served_by, served_next}
 use Rattle.file_server.proofs.serve_run.run_serve_by.Goals as goal
 
 pub loop-turn-init : goal.loop-turn-init
@@ -11,7 +18,8 @@ loop-turn-init g c = record {
   well = search rules;
   carriage = search rules;
   time = refl;
-  served = served_none _ _ _ (g.M.Moments.read c.args.moments.now) (g.L.Link.asked c.args.link.now) _ _ (search rules);
+  served = made_none _ (g.M.Moments.read c.args.moments.now) (g.L.Link.asked c.args.link.now) _ _ (search rules);
+  logged = made_none _ (g.M.Moments.read c.args.moments.now) (g.L.Link.asked c.args.link.now) _ _ (search rules);
 }
 
 pub returns-in_err-server-clause-turns : goal.returns-in_err-server-clause-turns
@@ -20,7 +28,7 @@ returns-in_err-server-clause-turns g c =
     (Asks (g.L.Link.asked c.args.link.now) (g.L.Link.asked c.args.link.now)) c.args.options.config
     c.args.options.turns c.args.options.me 0 c.args.store.now (g.L.Link.queue c.args.link.now)
     (new_service c.args.options.config c.args.options.me c.args.store.now (g.L.Link.queue c.args.link.now))
-    c.from_residual.result (served_none _ _ _ (g.M.Moments.read c.args.moments.now) (g.L.Link.asked c.args.link.now) _ _ refl)
+    c.from_residual.result (made_none _ (g.M.Moments.read c.args.moments.now) (g.L.Link.asked c.args.link.now) _ _ refl)
     (made_to_fault c.from_residual.result c.args.options.turns 0 c.from_residual.ensures.0 (omega arith))
 
 pub returns-in_err-now-clause-turns : goal.returns-in_err-now-clause-turns
@@ -30,7 +38,7 @@ returns-in_err-now-clause-turns g c =
     c.args.options.turns c.args.options.me c.loop-turn.turn c.args.store.now (g.L.Link.queue c.args.link.now)
     (service_of c.loop-turn.server c.loop-turn.store (g.L.Link.queue c.loop-turn.link))
     c.from_residual-in_err-now.result
-    (served_still _ _ _ (g.M.Moments.read c.args.moments.now) (g.M.Moments.read c.loop-turn.moments)
+    (made_still _ (g.M.Moments.read c.args.moments.now) (g.M.Moments.read c.loop-turn.moments)
     (g.M.Moments.read c.next.new.self) _ c.loop-turn.turn _ _ c.loop-turn.invariant.served c.in_err-now.ensures.reads)
     (made_to_fault c.from_residual-in_err-now.result c.args.options.turns c.loop-turn.turn
     c.from_residual-in_err-now.ensures.0 (omega arith))
@@ -40,7 +48,7 @@ returns-then-eq-clause-turns g c =
     served_by _ _ _ {A = Unit {0}} (Reads (g.M.Moments.read c.args.moments.now) (g.M.Moments.read c.next.new.self))
     (Asks (g.L.Link.asked c.args.link.now) (g.L.Link.asked c.turn-end.new.link)) c.args.options.config
     c.args.options.turns c.args.options.me (c.loop-turn.turn + 1) c.args.store.now (g.L.Link.queue c.args.link.now)
-    (service_of c.turn-end.new.self c.turn-end.new.store (g.L.Link.queue c.turn-end.new.link)) (Err LinkFault)
+    (service_of c.turn-end.new.self c.turn-end.new.store (g.L.Link.queue c.turn-end.new.link)) (Err Link)
     (served_next _ _ _ (g.M.Moments.read c.args.moments.now) (g.M.Moments.read c.loop-turn.moments)
     (g.M.Moments.read c.next.new.self) (g.L.Link.asked c.args.link.now) (g.L.Link.asked c.loop-turn.link)
     (g.L.Link.asked c.turn-end.new.link) c.loop-turn.turn c.start.result c.in_ok-now.now
@@ -65,6 +73,29 @@ loop-turn-preserved g c = record {
       (c.start.ensures ∙ ap (λ t. g.M.Moments.starts t c.in_ok-now.now)
       (c.next.ensures.same_time ∙ c.loop-turn.invariant.time))
       c.turn-end.ensures.serves;
+  logged =
+      made_next _ (g.M.Moments.read c.args.moments.now) (g.M.Moments.read c.loop-turn.moments)
+      (g.M.Moments.read c.next.new.self) (g.L.Link.asked c.args.link.now) (g.L.Link.asked c.loop-turn.link)
+      (g.L.Link.asked c.turn-end.new.link) c.loop-turn.turn c.in_ok-now.now _ _
+      (record {
+        station =
+            service_of c.turn-end.new.self (c.turn-end.new.store, g.G.Log.told c.watch.new.log)
+            (g.L.Link.queue c.turn-end.new.link);
+        seen = c.watch.new.watch.seen;
+      })
+      c.loop-turn.invariant.logged c.in_ok-now.ensures.reads
+      (logs_turn (change g.S.Store.contents g.S.Store.may_give g.S.Store.count) c.args.options.carriage
+      (g.M.Moments.starts (g.M.Moments.time c.args.moments.now)) {asked = Asks (g.L.Link.asked c.loop-turn.link) (g.L.Link.asked c.turn-end.new.link)}
+      (IsReadOf g.G.LinkLog.reads (λ l. Asks (g.L.Link.asked c.loop-turn.link) (g.L.Link.asked l))) c.in_ok-now.now c.start.result c.loop-turn.server.node.carriage (g.G.Log.told c.turn-end.new.log)
+      (g.G.LinkLog.reads c.turn-end.new.link) _ _ c.turn-end.result c.loop-turn.invariant.carriage
+      (c.start.ensures ∙ ap (λ t. g.M.Moments.starts t c.in_ok-now.now)
+      (c.next.ensures.same_time ∙ c.loop-turn.invariant.time))
+      c.turn-end.ensures.logs
+      (c.watch.ensures
+      ∙ ap
+      (λ (t : Option (List Event)). watched_slots c.turn-end.new.self.node.host c.turn-end.new.self.sessions
+      (min SERVER_CONNS (length c.turn-end.new.self.node.host.slots)) (watched c.loop-turn.watch.seen t))
+      c.turned.ensures));
 }
 
 pub returns-clause-turns : goal.returns-clause-turns
@@ -75,3 +106,83 @@ returns-clause-turns g c =
     c.args.options.turns c.args.options.me c.loop-turn.turn c.args.store.now (g.L.Link.queue c.args.link.now)
     (service_of c.loop-turn.server c.loop-turn.store (g.L.Link.queue c.loop-turn.link)) (Ok (tt {0}))
     c.loop-turn.invariant.served all
+
+-- ---- what was logged
+
+pub returns-in_err-server-clause-logs : goal.returns-in_err-server-clause-logs
+returns-in_err-server-clause-logs g c =
+    let changes = change g.S.Store.contents g.S.Store.may_give g.S.Store.count in
+    logged_by changes c.args.options.carriage (g.M.Moments.starts (g.M.Moments.time c.args.moments.now))
+    (Reads (g.M.Moments.read c.args.moments.now) (g.M.Moments.read c.args.moments.now))
+    (Asks (g.L.Link.asked c.args.link.now) (g.L.Link.asked c.args.link.now)) c.args.options.config
+    c.args.options.turns c.args.options.me 0 (c.args.store.now, g.G.Log.told c.args.log.now) (g.L.Link.queue c.args.link.now)
+    (new_logged c.args.options.config c.args.options.me (c.args.store.now, g.G.Log.told c.args.log.now) (g.L.Link.queue c.args.link.now))
+    c.from_residual.result (made_none _ (g.M.Moments.read c.args.moments.now) (g.L.Link.asked c.args.link.now) _ _ refl)
+    (made_to_fault c.from_residual.result c.args.options.turns 0 c.from_residual.ensures.0 (omega arith))
+
+pub returns-in_err-now-clause-logs : goal.returns-in_err-now-clause-logs
+returns-in_err-now-clause-logs g c =
+    let changes = change g.S.Store.contents g.S.Store.may_give g.S.Store.count in
+    logged_by changes c.args.options.carriage (g.M.Moments.starts (g.M.Moments.time c.args.moments.now))
+    (Reads (g.M.Moments.read c.args.moments.now) (g.M.Moments.read c.next.new.self))
+    (Asks (g.L.Link.asked c.args.link.now) (g.L.Link.asked c.loop-turn.link)) c.args.options.config
+    c.args.options.turns c.args.options.me c.loop-turn.turn (c.args.store.now, g.G.Log.told c.args.log.now)
+    (g.L.Link.queue c.args.link.now)
+    (record {
+      station =
+          service_of c.loop-turn.server (c.loop-turn.store, g.G.Log.told c.loop-turn.log) (g.L.Link.queue c.loop-turn.link);
+      seen = c.loop-turn.watch.seen;
+    })
+    c.from_residual-in_err-now.result
+    (made_still _ (g.M.Moments.read c.args.moments.now) (g.M.Moments.read c.loop-turn.moments)
+    (g.M.Moments.read c.next.new.self) _ c.loop-turn.turn _ _ c.loop-turn.invariant.logged c.in_err-now.ensures.reads)
+    (made_to_fault c.from_residual-in_err-now.result c.args.options.turns c.loop-turn.turn
+    c.from_residual-in_err-now.ensures.0 (omega arith))
+
+pub returns-then-eq-clause-logs : goal.returns-then-eq-clause-logs
+returns-then-eq-clause-logs g c =
+    let changes = change g.S.Store.contents g.S.Store.may_give g.S.Store.count in
+    logged_by changes c.args.options.carriage (g.M.Moments.starts (g.M.Moments.time c.args.moments.now))
+    {A = Unit {0}} (Reads (g.M.Moments.read c.args.moments.now) (g.M.Moments.read c.next.new.self))
+    (Asks (g.L.Link.asked c.args.link.now) (g.L.Link.asked c.turn-end.new.link)) c.args.options.config
+    c.args.options.turns c.args.options.me (c.loop-turn.turn + 1) (c.args.store.now, g.G.Log.told c.args.log.now)
+    (g.L.Link.queue c.args.link.now) _ (Err Link)
+    (made_next _ (g.M.Moments.read c.args.moments.now) (g.M.Moments.read c.loop-turn.moments)
+    (g.M.Moments.read c.next.new.self) (g.L.Link.asked c.args.link.now) (g.L.Link.asked c.loop-turn.link)
+    (g.L.Link.asked c.turn-end.new.link) c.loop-turn.turn c.in_ok-now.now _ _
+    (record {
+      station =
+          service_of c.turn-end.new.self (c.turn-end.new.store, g.G.Log.told c.watch.new.log)
+          (g.L.Link.queue c.turn-end.new.link);
+      seen = c.watch.new.watch.seen;
+    })
+    c.loop-turn.invariant.logged c.in_ok-now.ensures.reads
+    (logs_turn (change g.S.Store.contents g.S.Store.may_give g.S.Store.count) c.args.options.carriage
+    (g.M.Moments.starts (g.M.Moments.time c.args.moments.now)) {asked = Asks (g.L.Link.asked c.loop-turn.link) (g.L.Link.asked c.turn-end.new.link)}
+    (IsReadOf g.G.LinkLog.reads (λ l. Asks (g.L.Link.asked c.loop-turn.link) (g.L.Link.asked l))) c.in_ok-now.now c.start.result c.loop-turn.server.node.carriage (g.G.Log.told c.turn-end.new.log)
+    (g.G.LinkLog.reads c.turn-end.new.link) _ _ c.turn-end.result c.loop-turn.invariant.carriage
+    (c.start.ensures ∙ ap (λ t. g.M.Moments.starts t c.in_ok-now.now)
+    (c.next.ensures.same_time ∙ c.loop-turn.invariant.time))
+    c.turn-end.ensures.logs
+    (c.watch.ensures
+    ∙ ap
+    (λ (t : Option (List Event)). watched_slots c.turn-end.new.self.node.host c.turn-end.new.self.sessions
+    (min SERVER_CONNS (length c.turn-end.new.self.node.host.slots)) (watched c.loop-turn.watch.seen t))
+    c.turned.ensures)))
+    (omega arith)
+
+pub returns-clause-logs : goal.returns-clause-logs
+returns-clause-logs g c =
+    let all : c.loop-turn.turn ≡ c.args.options.turns = omega arith in
+    logged_by (change g.S.Store.contents g.S.Store.may_give g.S.Store.count) c.args.options.carriage
+    (g.M.Moments.starts (g.M.Moments.time c.args.moments.now))
+    (Reads (g.M.Moments.read c.args.moments.now) (g.M.Moments.read c.loop-turn.moments))
+    (Asks (g.L.Link.asked c.args.link.now) (g.L.Link.asked c.loop-turn.link)) c.args.options.config
+    c.args.options.turns c.args.options.me c.loop-turn.turn (c.args.store.now, g.G.Log.told c.args.log.now)
+    (g.L.Link.queue c.args.link.now)
+    (record {
+      station =
+          service_of c.loop-turn.server (c.loop-turn.store, g.G.Log.told c.loop-turn.log) (g.L.Link.queue c.loop-turn.link);
+      seen = c.loop-turn.watch.seen;
+    })
+    (Ok (tt {0})) c.loop-turn.invariant.logged all

@@ -1,8 +1,10 @@
 use Rattle.std.proofs.Common.{◌≡◌, ◌≤◌}
 use Rattle.chaos_file.specs.Store.{change}
 use Rattle.chaos_link.specs.Link.{Asks}
-use Rattle.chaosd_clock.specs.Moments.{Reads}
+use Rattle.chaos_node.specs.Moments.{Reads}
+use Rattle.file_server.specs.LoggedRun.{new_logged}
 use Rattle.file_server.specs.Service.{new_service, service_of}
+use Rattle.file_server.proofs.LoggedRun.{HasLogged}
 use Rattle.file_server.proofs.Served.{HasServed}
 use Rattle.file_server.proofs.serve_run.run_serve_by.Given as goal
 
@@ -18,4 +20,13 @@ invariant-loop-turn g l = record {
       (Asks (g.L.Link.asked l.fn.link) (g.L.Link.asked l.link)) l.turn
       (new_service l.fn.options.config l.fn.options.me l.fn.store (g.L.Link.queue l.fn.link))
       (service_of l.server l.store (g.L.Link.queue l.link));
+  logged : HasLogged (change g.S.Store.contents g.S.Store.may_give g.S.Store.count) l.fn.options.carriage
+      (g.M.Moments.starts (g.M.Moments.time l.fn.moments))
+      (Reads (g.M.Moments.read l.fn.moments) (g.M.Moments.read l.moments))
+      (Asks (g.L.Link.asked l.fn.link) (g.L.Link.asked l.link)) l.turn
+      (new_logged l.fn.options.config l.fn.options.me (l.fn.store, g.G.Log.told l.fn.log) (g.L.Link.queue l.fn.link))
+      (record {
+        station = service_of l.server (l.store, g.G.Log.told l.log) (g.L.Link.queue l.link);
+        seen = l.watch.seen;
+      });
 }

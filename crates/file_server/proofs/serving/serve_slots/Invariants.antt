@@ -1,11 +1,18 @@
+use Rattle.std.proofs.Common.{◌-◌, ◌≤◌, length}
 use Rattle.chaos_file.specs.Store.{change}
 use Rattle.file_server.specs.InTurn.{ServerTurnDoes}
 use Rattle.file_server.specs.Logged.{logged_uses}
 use Rattle.file_server.specs.Serve.{ServesSlotsBy}
 use Rattle.file_server.proofs.serving.serve_slots.Given as goal
 
-abbrev pub invariant-loop-place : goal.invariant-loop-place
-invariant-loop-place g l =
-    ServerTurnDoes l.fn.turn l.turn
-    (ServesSlotsBy (logged_uses (change g.S.Store.contents g.S.Store.may_give g.S.Store.count)) l.fn.turn.now l.place)
-    l.fn.sessions l.sessions (l.fn.store, g.G.Log.told l.fn.log) (l.store, g.G.Log.told l.log) l.sent
+abbrev pub invariant-slots : goal.invariant-slots
+invariant-slots g l = record {
+  within : l.from ≤ length l.fn.turn.host.now.slots;
+  done :
+      ServerTurnDoes l.fn.turn l.turn
+      (ServesSlotsBy (logged_uses (change g.S.Store.contents g.S.Store.may_give g.S.Store.count)) l.fn.turn.now l.from)
+      l.fn.sessions l.sessions (l.fn.store, g.G.Log.told l.fn.log) (l.store, g.G.Log.told l.log) l.sent;
+}
+
+abbrev pub decreases-slots : goal.decreases-slots
+decreases-slots g l = length l.fn.turn.host.now.slots - l.from

@@ -3,9 +3,9 @@ use Rattle.chaos_packet.specs.Outbox.{OutboxView}
 use Rattle.chaos_file.specs.Store.{change}
 use Rattle.chaos_host.specs.View.{HostView}
 use Rattle.chaos_link.specs.Link.{Asks}
-use Rattle.chaos_turn.specs.Station.{station}
-use Rattle.chaos_turn.proofs.InTurn.{left_as}
-use Rattle.chaos_turn.proofs.Whole.{goes_over}
+use Rattle.chaos_node.specs.Station.{station}
+use Rattle.chaos_node.proofs.InTurn.{left_as}
+use Rattle.chaos_node.proofs.Whole.{goes_over}
 use Rattle.file_server.specs.InTurn.{server_in}
 use Rattle.file_server.specs.Server.{server}
 use Rattle.file_server.specs.Turn.{RunsTurn}

@@ -1,9 +1,14 @@
-use Rattle.std.proofs.Common.{rules}
+use Rattle.std.proofs.Common.{refl, rules}
+use Rattle.chaos_host.proofs.InUseSet.{used_called}
 use Rattle.chaos_host.proofs.Places.{named_called, called_done, refusal_reply}
 use Rattle.chaos_host.proofs.host.Host.announce.Goals as goal
 
 pub invariant_of-self-2 : goal.invariant_of-self-2
-invariant_of-self-2 c = search (named_called, c.in_ok-slot.ensures.found)
+invariant_of-self-2 c = record {
+  host = search (named_called, c.self.invariant.host, c.in_ok-slot.ensures.found);
+  in_use =
+      used_called _ _ _ _ _ _ _ _ _ _ c.self.invariant.in_use c.in_ok-slot.ensures.found c.announce.ensures refl;
+}
 
 pub returns : goal.returns
 returns c = search (rules, called_done, refusal_reply, c.in_ok-slot.ensures.found)

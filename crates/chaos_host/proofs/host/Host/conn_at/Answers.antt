@@ -18,5 +18,5 @@ returns-clause-named c =
     let used = ap not (sym c.is_free.ensures ∙ c.if-is_free.false) in
     ap (λ (h : HostView). look_slot (λ conn. conn) (named_slot h.slots c.index_at.result)) (sym c.self.view_is)
     ∙ ap (look_slot (λ conn. conn))
-    (index_names slots c.args.slot c.index_at.result slot c.self.invariant.table.few there used
+    (index_names slots c.args.slot c.index_at.result slot c.self.invariant.host.table.few there used
     (sym c.index_at.ensures))

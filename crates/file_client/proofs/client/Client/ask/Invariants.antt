@@ -7,13 +7,13 @@ use Rattle.file_client.proofs.client.Client.ask.Given as goal
 -- the command was written at most once, nothing was received, and the patience isn't spent
 abbrev pub invariant-loop-turn : goal.invariant-loop-turn
 invariant-loop-turn g l = record {
-  shown : (g.T.Turns.pace (g.T.Turns.time l.fn.turns)).Shows l.self.now;
+  shown : (g.D.Driver.pace (g.D.Driver.time l.fn.self.driver)).Shows l.self.host.now.now;
   within : IsWithinTurns l.patience l.turn;
-  same_links : g.T.Turns.links l.turns ≡ g.T.Turns.links l.fn.turns;
-  same_time : g.T.Turns.time l.turns ≡ g.T.Turns.time l.fn.turns;
-  unfailed : g.T.Turns.failures l.turns ≤ g.T.Turns.failures l.fn.turns;
-  talk : WritesAndTurns (g.T.Turns.pace (g.T.Turns.time l.fn.turns))
-      (Asks (g.T.Turns.asked l.fn.turns) (g.T.Turns.asked l.turns)) l.turn
-      (talker l.fn.self.caller (g.T.Turns.queue l.fn.turns)) (command_item l.command) false l.is_written
-      (talker l.self.caller (g.T.Turns.queue l.turns));
+  same_links : g.D.Driver.links l.self.driver ≡ g.D.Driver.links l.fn.self.driver;
+  same_time : g.D.Driver.time l.self.driver ≡ g.D.Driver.time l.fn.self.driver;
+  unfailed : g.D.Driver.failures l.self.driver ≤ g.D.Driver.failures l.fn.self.driver;
+  talk : WritesAndTurns (g.D.Driver.pace (g.D.Driver.time l.fn.self.driver))
+      (Asks (g.D.Driver.asked l.fn.self.driver) (g.D.Driver.asked l.self.driver)) l.turn
+      (talker l.fn.self.host.now.caller (g.D.Driver.queue l.fn.self.driver)) (command_item l.command) false l.is_written
+      (talker l.self.host.now.caller (g.D.Driver.queue l.self.driver));
 }

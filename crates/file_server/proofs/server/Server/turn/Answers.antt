@@ -1,18 +1,21 @@
-use Rattle.std.proofs.Common.{Bool, Some, rules, subst}
+use Rattle.std.proofs.Common.{Bool, List, Option, Some, refl, rules, subst}
 use Rattle.chaos_packet.specs.Outbox.{OutboxView}
 use Rattle.chaos_file.specs.Store.{change}
 use Rattle.chaos_host.specs.View.{HostView}
-use Rattle.chaos_link.specs.Link.{Asks}
-use Rattle.chaos_turn.specs.Station.{station}
-use Rattle.chaos_turn.proofs.InTurn.{left_as}
-use Rattle.chaos_turn.proofs.Whole.{goes_over}
+use Rattle.chaos_link.specs.Link.{Ask, Asks}
+use Rattle.chaos_link.specs.declared.report.LinkReport.{LinkReport}
+use Rattle.chaos_node.specs.Station.{station}
+use Rattle.chaos_node.proofs.InTurn.{left_as}
+use Rattle.chaos_node.proofs.Whole.{goes_over}
 use Rattle.file_server.specs.InTurn.{server_in}
 use Rattle.file_server.specs.Server.{server}
 use Rattle.file_server.specs.Service.{service_of}
-use Rattle.file_server.specs.Logged.{LogsTurn}
+use Rattle.file_server.specs.Logged.{IsReadOf, LogsTurn, logged_uses}
+use Rattle.file_server.specs.Turn.{IsTurnBy}
+use Rattle.file_server.specs.Watch.{Event}
 use Rattle.file_server.specs.Waiting.{waits}
 use Rattle.file_server.specs.declared.limits.TheConstants.{SILENT_MILLIS}
-use Rattle.file_server.proofs.Logged.{runs_plain}
+use Rattle.file_server.proofs.Logged.{logs_plain}
 use Rattle.file_server.proofs.server.Server.turn.Goals as goal
 
 pub returns-clause-logs : goal.returns-clause-logs
@@ -23,22 +26,31 @@ returns-clause-logs g c =
     let sent = c.take_turn-sent in
     let node = c.args.self.now.node in
     let told = g.G.Log.told in
+    let read : List Ask → LinkReport → Type 0 =
+    IsReadOf g.G.LinkLog.reads (λ l. Asks (asked c.args.link.now) (asked l)) in
     let changes = change g.S.Store.contents g.S.Store.may_give g.S.Store.count in
     let before = service_of c.args.self.now (c.args.store.now, told c.args.log.now) (queue c.args.link.now) in
     left_as
-    (λ (h : HostView) l (o : OutboxView). LogsTurn changes (Some SILENT_MILLIS) (Asks (asked c.args.link.now) (asked l))
+    (λ (h : HostView) l (o : OutboxView). LogsTurn changes (Some SILENT_MILLIS) read (Asks (asked c.args.link.now) (asked l))
     (waits c.args.may_wait node.host) node.carriage c.args.start c.args.now before
     (station (server h sent.new.sessions (sent.new.store, told sent.new.log)) (queue l) o) c.end_of.result)
     sent.new.turn _ _ _ (search rules) (search rules) (search rules)
     (subst
-    (λ (w : Bool). LogsTurn changes (Some SILENT_MILLIS) (Asks (asked c.args.link.now) (asked sent.new.turn.link.now)) w
+    (λ (w : Bool). LogsTurn changes (Some SILENT_MILLIS) read (Asks (asked c.args.link.now) (asked sent.new.turn.link.now)) w
     node.carriage c.args.start c.args.now before (server_in sent.new.turn sent.new.sessions (sent.new.store, told sent.new.log))
     c.end_of.result)
     c.waits-may_wait.ensures
     (record {
       came = begun.result.came;
+      report = g.G.LinkLog.reads begun.new.link;
+      read = (begun.new.link, begun.ensures.begins.asks, refl);
       lots = sent.ensures.0.lots;
-      turn = sent.ensures.0.done;
+      turn =
+          subst
+          (λ (t : Option (List Event)). IsTurnBy (logged_uses changes) (Some SILENT_MILLIS) begun.result.came c.args.start
+          c.args.now (server node.host c.args.self.now.sessions (c.args.store.now, t))
+          (server_in sent.new.turn sent.new.sessions (sent.new.store, told sent.new.log)).node sent.ensures.0.lots)
+          c.log_arrival.ensures sent.ensures.0.done;
       link =
           goes_over node.carriage before (server_in sent.new.turn sent.new.sessions (sent.new.store, told sent.new.log))
           (queue begun.new.link) sent.ensures.0.lots begun.result.came begun.result.worked sent.result c.end_of.result
@@ -47,4 +59,4 @@ returns-clause-logs g c =
 
 pub returns-clause-serves : goal.returns-clause-serves
 returns-clause-serves g c =
-    runs_plain (change g.S.Store.contents g.S.Store.may_give g.S.Store.count) _ _ _ _ _ _ _ _ _ (returns-clause-logs g c)
+    logs_plain (change g.S.Store.contents g.S.Store.may_give g.S.Store.count) _ _ _ _ _ _ _ _ _ _ (returns-clause-logs g c)

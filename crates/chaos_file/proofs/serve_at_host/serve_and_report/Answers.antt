@@ -1,0 +1,39 @@
+use Rattle.std.proofs.Common.{rules, None}
+use Rattle.chaos_file.specs.Store.{change}
+use Rattle.chaos_host.specs.Acted.{HostDoes}
+use Rattle.chaos_file.specs.ServeAnswer.{IsReported, IsUnreported}
+use Rattle.chaos_file.specs.declared.served.Served.TheVariants as served
+use Rattle.chaos_file.proofs.ServeSlots.{serves_one}
+use Rattle.chaos_file.proofs.serve_at_host.serve_and_report.Goals as goal
+
+pub returns-in-NotOpen : goal.returns-in-NotOpen
+returns-in-NotOpen g c =
+    let store = change g.S.Store.contents g.S.Store.may_give g.S.Store.count c.args.store.now c.args.store.now in
+    serves_one (IsReported store c.args.session.now c.args.session.now None)
+    (IsUnreported store c.args.session.now c.args.session.now None)
+    (λ acted. HostDoes c.args.host.now 2 acted c.args.host.now c.args.out.now c.args.out.now (served.Ended c.in-NotOpen.state)) c.args.host.now
+    c.args.id c.args.at.now.moment (search rules)
+
+pub returns-in-Nothing : goal.returns-in-Nothing
+returns-in-Nothing g c =
+    let store = change g.S.Store.contents g.S.Store.may_give g.S.Store.count c.args.store.now c.args.store.now in
+    serves_one (IsReported store c.args.session.now c.args.session.now None)
+    (IsUnreported store c.args.session.now c.args.session.now None)
+    (λ acted. HostDoes c.args.host.now 2 acted c.args.host.now c.args.out.now c.args.out.now served.Idle) c.args.host.now
+    c.args.id c.args.at.now.moment (search rules)
+
+pub returns-in-Full : goal.returns-in-Full
+returns-in-Full g c =
+    let store = change g.S.Store.contents g.S.Store.may_give g.S.Store.count c.args.store.now c.args.store.now in
+    serves_one (IsReported store c.args.session.now c.args.session.now None)
+    (IsUnreported store c.args.session.now c.args.session.now None)
+    (λ acted. HostDoes c.args.host.now 2 acted c.args.host.now c.args.out.now c.args.out.now served.NoRoom) c.args.host.now
+    c.args.id c.args.at.now.moment (search rules)
+
+pub returns-in-Command : goal.returns-in-Command
+returns-in-Command g c =
+    let store = change g.S.Store.contents g.S.Store.may_give g.S.Store.count c.args.store.now c.apply_into-made.new.store in
+    serves_one (IsReported store c.args.session.now c.apply_into-made.new.self c.apply_into-made.result)
+    (IsUnreported store c.args.session.now c.apply_into-made.new.self c.apply_into-made.result)
+    (λ acted. HostDoes c.args.host.now 2 acted c.answer_at.new.host c.args.out.now c.answer_at.new.out c.answer_at.result)
+    c.args.host.now c.args.id c.args.at.now.moment (search rules)

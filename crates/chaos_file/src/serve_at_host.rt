@@ -1,0 +1,100 @@
+//! FILE over one of a host's connections.
+ghost use Rattle.std.specs.Prelude.{◌≡◌, ◌≤◌};
+ghost use Rattle.chaos_packet.specs.Outbox.{room_of};
+ghost use Rattle.chaos_file.specs.Store.{change};
+ghost use Rattle.chaos_host.specs.Acted.{HostDoes};
+ghost use Rattle.chaos_file.specs.ServeCalls.{after_eof_at, after_reply_at};
+ghost use Rattle.chaos_file.specs.ServeHost.{ServesAndReports, ServesOne};
+
+use crate::serve_task::{Task, task_of};
+use crate::served::Served;
+use crate::{Change, Reply, Session, Store};
+use chaos_host::{ConnId, Host};
+use chaos_packet::{Opcode, Outbox};
+use std::alloc::Global;
+
+/// Reads the command in front, and writes its reply.
+#[tactic(auto, using(crate::proofs::Twice::put_twice, crate::proofs::Twice::length_both))]
+fn answer_at(host: &mut Host, id: ConnId, reply: &[u8], now: u64, out: &mut Outbox) -> Served
+    requires { 2 ≤ room_of out.old }
+    ensures { HostDoes host.old 2 (after_reply_at host.old id reply.now now)
+        host.new out.old out.new result }
+{
+    let _command = host.read_done(id, out);
+    let _number = host.write(id, Opcode::DATA, reply, now, out);
+    Served::Replied
+}
+
+/// Reads the EOF in front.
+fn finish_at(host: &mut Host, id: ConnId, out: &mut Outbox) -> Served
+    requires { 2 ≤ room_of out.old }
+    ensures { HostDoes host.old 1 (after_eof_at host.old id) host.new out.old out.new result }
+{
+    let _eof = host.read_done(id, out);
+    Served::Eof
+}
+
+/// What serving a connection takes beside it: where memory is taken, and the moment in
+/// milliseconds.
+#[derive(Drop)]
+pub struct ServeAt {
+    pub alloc: Global,
+    pub moment: u64,
+}
+
+/// Serves the item in front of one of a host's connections as [`serve_one`] does, and says what its
+/// command changed. See [`Session::apply_into`]. Only a command gets room for a reply, so that a
+/// connection with nothing in front is passed over by one look.
+pub fn serve_and_report<S: Store>(
+    at: &ServeAt,
+    host: &mut Host,
+    id: ConnId,
+    session: &mut Session,
+    store: &mut S,
+    out: &mut Outbox,
+) -> (Served, Option<Change>)
+    requires { 2 ≤ room_of out.old }
+    // The call does what `serve_one` does. Where it answered a command, the change is that of the
+    // command and the reply that was written, by the whole promise of `Session::apply_into`. In all
+    // other cases there is no change.
+    ensures { ServesAndReports (change S.contents S.may_give S.count store.old store.new)
+        session.old session.new result.1 host.old id at.now.moment host.new out.old out.new result.0 }
+{
+    let Ok(conn) = host.conn(id) else {
+        return (Served::NoSuchConnection, None);
+    };
+    match task_of(conn) {
+        Task::NotOpen(state) => (Served::Ended(state), None),
+        Task::Nothing => (Served::Idle, None),
+        Task::Full => (Served::NoRoom, None),
+        Task::LastItem => (finish_at(host, id, out), None),
+        Task::Command(body) => {
+            let mut reply = Reply::new();
+            let made = session.apply_into(at.alloc, store, body, &mut reply);
+            (answer_at(host, id, reply.as_slice(), at.moment, out), made)
+        }
+    }
+}
+
+/// Serves the item in front of one of a host's connections, one command at most. Answers and cost
+/// are those of [`serve_conn`](crate::serve_conn), and the call needs room for two packets. It is
+/// [`serve_and_report`] without the change.
+pub fn serve_one<S: Store>(
+    alloc: Global,
+    host: &mut Host,
+    id: ConnId,
+    session: &mut Session,
+    store: &mut S,
+    now: u64,
+    out: &mut Outbox,
+) -> Served
+    requires { 2 ≤ room_of out.old }
+    // At the host's connection this does what `serve_conn` does, and no other connection changes.
+    // If no connection in use has the index, the answer is NoSuchConnection, and nothing changes.
+    ensures { ServesOne (change S.contents S.may_give S.count store.old store.new)
+        session.old session.new host.old id now host.new out.old out.new result }
+{
+    let at = ServeAt { alloc, moment: now };
+    let (served, _) = serve_and_report(&at, host, id, session, store, out);
+    served
+}

@@ -1,4 +1,0 @@
-pub mod Named
-pub mod Putting
-pub mod Looks
-pub mod Leaving

@@ -1,4 +1,0 @@
-pub mod Named
-pub mod Reading
-pub mod Stream
-pub mod Writing

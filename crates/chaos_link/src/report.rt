@@ -1,0 +1,49 @@
+//! What a link over a socket knows of the world outside.
+ghost use Rattle.std.specs.Prelude.{◌≡◌, None};
+ghost use Rattle.chaos_link.specs.declared.report.LinkReport.{LinkReport};
+
+use crate::socket_fault::SocketFault;
+use std::net::SocketAddrV4;
+
+/// What a link knows of its last receive, and of all that it was asked since.
+#[derive(Clone, Copy)]
+pub struct LinkReport {
+    /// From which UDP address the datagram came that the receive answered.
+    pub source: Option<SocketAddrV4>,
+    /// The last call of the socket that failed.
+    pub fault: Option<SocketFault>,
+}
+
+impl LinkReport {
+    /// A datagram came from this UDP address, and no call failed.
+    pub(crate) fn of_source(source: Option<SocketAddrV4>) -> Self
+        ensures { result ≡ record { source = source; fault = None } }
+    {
+        LinkReport {
+            source,
+            fault: None,
+        }
+    }
+
+    /// No datagram came, and this call failed, where any did.
+    pub(crate) fn of_fault(fault: Option<SocketFault>) -> Self
+        ensures { result ≡ record { source = None; fault = fault } }
+    {
+        LinkReport {
+            source: None,
+            fault,
+        }
+    }
+}
+
+/// A link that reports from where a datagram came, and which call of its socket failed. A link in
+/// memory has no such report.
+pub trait Reports {
+    /// The report of the link as it is.
+    ghost reported: { Self → LinkReport };
+
+    /// What the link knows of its last receive, and of all that it was asked since.
+    fn report(&self) -> LinkReport
+        // The report is that of the link.
+        ensures { result ≡ reported self.now };
+}

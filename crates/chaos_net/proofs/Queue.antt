@@ -1,0 +1,145 @@
+-- A turn over a queue.
+use Rattle.std.proofs.Common.{◌≡◌, ℕ, ◌+◌, ◌≤◌, Bool, true, List, [], ◌∷◌, ◌++◌, length, drop, nat_lt, Option, Some, None, Ok, Err, IfSome, refl, sym, ap, ◌∙◌, subst, append_assoc, append-nil, length-append, arith, if◌then◌else◌, option_map}
+use Rattle.std.specs.Prelude.{slice_get}
+use Rattle.std.proofs.lemmas.Bool.Decides.{nat_tests}
+use Rattle.chaos_packet.specs.Packet.{PacketView}
+use Rattle.chaos_host.specs.View.{HostView}
+use Rattle.chaos_link.specs.declared.carriage.Carriage.{Carriage}
+use Rattle.chaos_link.specs.declared.carriage.Carriage.TheVariants.{One, Two}
+use Rattle.chaos_link.specs.Link.{Addressed, Ask, QueueView, Receive, to_send, without_first}
+use Rattle.chaos_link.specs.Peers.{PeersView, socket_of}
+use Rattle.chaos_link.specs.Udp.{Outgoing, SocketAsk, outgoing_of, outgoing_to}
+use Rattle.chaos_link.specs.Packets.{packets_read}
+use Rattle.chaos_node.specs.Arrive.{Arrival, arrival_from}
+use Rattle.chaos_node.specs.Link.{datagrams_of, sent_by, sent_into}
+use Rattle.chaos_node.specs.Phase.{Effect}
+use Rattle.chaos_node.specs.Turn.{client_phases, queue_after}
+use Rattle.chaos_net.specs.Queue.{IsLaid, IsCarried, QueuesCarry, SocketsPost, TurnsAreSteps}
+use Rattle.chaos_net.specs.System.{Hands, handed}
+
+-- one that has room takes all
+all_taken : (cap : ℕ) (xs ds : List Addressed) → length xs + length ds ≤ cap
+    → sent_into (record { datagrams = xs; cap = cap }) ds ≡ record { datagrams = xs ++ ds; cap = cap }
+all_taken cap xs [] room = ap (λ (ys : List Addressed). record { datagrams = ys; cap = cap }) (sym (append-nil xs))
+all_taken cap xs (d ∷ ds) room =
+    let fits : nat_lt (length xs) cap ≡ true = grind (arith, nat_tests) in
+    let more : length (xs ++ d ∷ []) ≡ length xs + 1 = length-append xs (d ∷ []) in
+    ap (λ (b : Bool). sent_into (record { datagrams = if b then xs ++ d ∷ [] else xs; cap = cap }) ds) fits
+    ∙ all_taken cap (xs ++ d ∷ []) ds (omega (arith, more, room))
+    ∙ ap (λ (ys : List Addressed). record { datagrams = ys; cap = cap }) (append_assoc xs (d ∷ []) ds)
+
+-- nothing goes out of nothing
+none_out : (carriage : Carriage) → datagrams_of carriage [] ≡ []
+none_out One = refl
+none_out Two = refl
+
+-- the oldest is taken of the front
+first_dropped : (posts : List Addressed) (number : Option ℕ) (cap : ℕ) (carriage : Carriage) (xs : List Addressed)
+    (waiting : List PacketView) → IsLaid posts number (record { datagrams = xs; cap = cap }) waiting
+    → drop 1 (xs ++ datagrams_of carriage waiting) ≡ drop 1 xs ++ datagrams_of carriage waiting
+first_dropped posts number cap carriage (x ∷ xs) waiting laid = refl
+first_dropped posts None cap carriage [] waiting laid =
+    let none : datagrams_of carriage waiting ≡ [] = ap (datagrams_of carriage) laid.1 ∙ none_out carriage in
+    ap (drop 1) none ∙ sym none
+first_dropped posts (Some k) cap carriage [] waiting laid = absurd (cc)
+
+-- what came is what was laid in front
+laid_came : (posts : List Addressed) (number : Option ℕ) (cap : ℕ) (carriage : Carriage) (xs : List Addressed)
+    (waiting : List PacketView) → IsLaid posts number (record { datagrams = xs; cap = cap }) waiting
+    → option_map (λ (d : Addressed). packets_read d.bytes) (slice_get (xs ++ datagrams_of carriage waiting) 0)
+    ≡ handed posts number
+laid_came posts None cap carriage xs waiting laid =
+    ap (λ (ys : List Addressed). option_map (λ (d : Addressed). packets_read d.bytes) (slice_get (ys ++ datagrams_of carriage waiting) 0)) laid.0
+    ∙ ap (λ (ys : List Addressed). option_map (λ (d : Addressed). packets_read d.bytes) (slice_get ys 0))
+    (ap (datagrams_of carriage) laid.1 ∙ none_out carriage)
+laid_came posts (Some k) cap carriage [] waiting laid = absurd (cc)
+laid_came posts (Some k) cap carriage (x ∷ xs) waiting laid =
+    ap (option_map (λ (d : Addressed). packets_read d.bytes)) (laid.2 ∙ sym laid.1)
+
+module _ (carriage : Carriage) (came : Arrival) (lots : List (List PacketView)) (waiting : List PacketView)
+    (others : List Addressed) (number : Option ℕ) (cap : ℕ) (xs : List Addressed) (after : Option QueueView) where
+  carried_by : IsLaid others number (record { datagrams = xs; cap = cap }) waiting
+      → length xs + length (sent_by carriage (waiting ∷ lots)) ≤ cap
+      → came ≡ arrival_from (sent_into (record { datagrams = xs; cap = cap }) (datagrams_of carriage waiting))
+      → after ≡ Some (queue_after carriage (record { datagrams = xs; cap = cap }) waiting lots)
+      → IsCarried others number came (record { datagrams = xs; cap = cap }) after (sent_by carriage (waiting ∷ lots))
+  carried_by laid room came_is after_is =
+      let ws = datagrams_of carriage waiting in
+      let ls = sent_by carriage lots in
+      let both : length (ws ++ ls) ≡ length ws + length ls = length-append ws ls in
+      let first : sent_into (record { datagrams = xs; cap = cap }) ws ≡ record { datagrams = xs ++ ws; cap = cap } =
+      all_taken cap xs ws (omega (arith, both, room)) in
+      let dropped = first_dropped others number cap carriage xs waiting laid in
+      let fewer : length (drop 1 xs) ≤ length xs = shorter xs in
+      let three : length (drop 1 xs ++ ws) ≡ length (drop 1 xs) + length ws = length-append (drop 1 xs) ws in
+      let last : sent_into (record { datagrams = drop 1 xs ++ ws; cap = cap }) ls
+      ≡ record { datagrams = (drop 1 xs ++ ws) ++ ls; cap = cap } =
+      all_taken cap (drop 1 xs ++ ws) ls (omega (arith, three, fewer, both, room)) in
+      record {
+        came_is =
+            came_is ∙ ap arrival_from first ∙ laid_came others number cap carriage xs waiting laid;
+        queue_is =
+            after_is
+            ∙ ap (λ (q : QueueView). Some (sent_into (without_first q) ls)) first
+            ∙ ap (λ (ys : List Addressed). Some (sent_into (record { datagrams = ys; cap = cap }) ls)) dropped
+            ∙ ap Some last
+            ∙ ap (λ (ys : List Addressed). Some (record { datagrams = ys; cap = cap })) (append_assoc (drop 1 xs) ws ls);
+      }
+    where
+      shorter : (ys : List Addressed) → length (drop 1 ys) ≤ length ys
+      shorter [] = omega arith
+      shorter (y ∷ ys) = omega arith
+
+pub queues_carry : (asked : List Ask → Type 0) (N : Type 0) → QueuesCarry asked N
+queues_carry asked N may_wait carriage came lots before after result queue others number goes is laid room =
+    let q = subst (λ (o : Option QueueView). IfSome o (λ (one : QueueView).
+    (came ≡ arrival_from (sent_into one (datagrams_of carriage before.outbox.packets)))
+    × (after.queue ≡ Some (queue_after carriage one before.outbox.packets lots)))) is goes.queue in
+    carried_by carriage came lots before.outbox.packets others number queue.cap queue.datagrams after.queue laid room
+    q.0 q.1
+
+-- a datagram that carries no packet is as none
+pub same_phases : (others : List Addressed) (number : Option ℕ) (came : Arrival) (now : ℕ) (h : HostView)
+    → Hands others number came → client_phases came now h ≡ client_phases (handed others number) now h
+same_phases others None None now h hands = refl
+same_phases others None (Some (Err fault)) now h hands = refl
+same_phases others None (Some (Ok packets)) now h hands = ap (λ (o : Arrival). client_phases o now h) hands
+same_phases others (Some k) came now h hands = ap (λ (o : Arrival). client_phases o now h) hands
+
+pub turns_are_steps : (asked : List Ask → Type 0) → TurnsAreSteps asked
+turns_are_steps asked may_wait carriage start now before after result answer posts others number runs is none = (
+  record {
+    carriage = carriage;
+    lots = (client_phases runs.came now before.node).lots;
+    turn =
+        (runs.host ∙ ap (λ (e : Effect). e.host) (same_phases others number runs.came now before.node is), ap (λ (e : Effect). e.lots) (same_phases others number runs.came now before.node is));
+    read = runs.link.read;
+    waiting = none;
+    posts = refl;
+  },
+  record {
+    first = datagrams_of carriage before.outbox.packets;
+    last = sent_by carriage (client_phases runs.came now before.node).lots;
+    all = refl;
+    asks = runs.link.asks;
+  },
+)
+
+-- a receive is asked to send nothing
+receipt_out : (peers : PeersView) (first last : List Addressed) (may_wait : Bool)
+    → outgoing_of peers (to_send first ++ Receive may_wait ∷ to_send last) ≡ outgoing_of peers (to_send (first ++ last))
+receipt_out peers [] last may_wait = refl
+receipt_out peers (d ∷ first) last may_wait =
+    ap (λ (ds : List Outgoing). outgoing_to (socket_of d.to peers) d.bytes ++ ds) (receipt_out peers first last may_wait)
+
+pub sockets_post : {S : Type 0} (asked : S → S → List SocketAsk → Type 0) → ((socket : S) → asked socket socket [])
+    → SocketsPost asked
+sockets_post asked began old new may_wait posted is =
+    let since =
+    is.asks.goes old []
+    (record { peers = refl; socket_asks = []; socket_asked = began old.socket; outgoing = refl }) in (
+      since.socket_asks,
+      since.socket_asked,
+      since.outgoing ∙ receipt_out old.peers is.first is.last may_wait
+          ∙ ap (λ (ds : List Addressed). outgoing_of old.peers (to_send ds)) (sym is.all),
+    )

@@ -1,0 +1,11 @@
+pub mod Free
+pub mod Halves
+pub mod InTurn
+pub mod Loaded
+pub mod Phase
+pub mod Queue
+pub mod Readback
+pub mod Receipt
+pub mod Several
+pub mod Whole
+pub mod Reading

@@ -1,0 +1,12 @@
+pub mod Arrive
+pub mod Begin
+pub mod End
+pub mod Halves
+pub mod InTurn
+pub mod Link
+pub mod Phase
+pub mod Slots
+pub mod Station
+pub mod Turn
+pub mod Clock
+pub mod Moments

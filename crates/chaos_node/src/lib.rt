@@ -1,0 +1,44 @@
+//! One turn of a host over a link: what waits is sent, what came is delivered, and each slot is
+//! ticked. What the host puts out goes into the link. A turn knows no service. A [`Node`] has what
+//! a host needs for such turns, and its owner serves between their halves, by the host's calls.
+//!
+//! A turn that you build yourself begins by [`begin`]. Then a [`Turn`] has the host, the link and
+//! the outbox. Its phases are the host's calls on what came, each followed by [`send_all`], and
+//! [`Turn::tick_slots`]. The turn ends by [`end_of`].
+//!
+//! A turn reads no clock (the moment is handed in), waits for a datagram only where its caller lets
+//! it, as its link does, and takes no memory.
+//!
+//! The moments of turns come from a clock that is handed in: a [`Dial`] says what a clock shows. An
+//! [`Epoch`] is its reading when a run begins, and [`Moments`] are read one after another. A
+//! [`NodeFault`] is what can end turns.
+#![tactic(auto)]
+
+mod arriving;
+mod beginning;
+mod client;
+mod clock;
+mod dial;
+mod end;
+mod fault;
+mod half;
+mod limits;
+mod moments;
+mod node;
+mod receiving;
+mod sending;
+mod ticking;
+mod turn;
+
+pub use beginning::{Begun, begin};
+pub use client::client_turn;
+pub use clock::Epoch;
+pub use dial::Dial;
+pub use end::{TurnEnd, any_of, end_of};
+pub use fault::NodeFault;
+pub use half::Half;
+pub use limits::TURN_ROOM;
+pub use moments::{ClockMoments, Moments};
+pub use node::Node;
+pub use sending::{law_read_back, law_sends_one, send_all, send_singly};
+pub use turn::Turn;

@@ -1,0 +1,182 @@
+//! A host that takes its turns over a link.
+ghost use Rattle.std.specs.Prelude.{◌≤◌};
+ghost use Rattle.chaos_node.specs.declared.limits.TheConstants.{TURN_ROOM};
+
+use crate::beginning::begin;
+use crate::client::client_turn;
+use crate::end::{TurnEnd, any_of, end_of};
+use crate::half::Half;
+use crate::limits::TURN_ROOM;
+use crate::sending::send_all;
+use crate::turn::Turn;
+use chaos_host::{Host, HostDelivered};
+use chaos_link::{Carriage, LINK_ROOM, Link};
+use chaos_packet::Outbox;
+use std::alloc::{AllocError, Global};
+
+/// A host with what it needs for its turns: the outbox of what it puts out, and the buffer of what
+/// comes. The link is lent to each call.
+///
+/// Between turns the node's owner makes the host's own calls, with `out` as their outbox. What
+/// these calls put out goes out at the begin of the next turn, or by [`Node::send`]. After either
+/// of the two nothing waits.
+#[derive(Drop)]
+pub struct Node {
+    /// The host, for its own calls between turns.
+    pub host: Host,
+    /// What waits to be sent.
+    pub out: Outbox,
+    /// In which version of datagrams packets go out.
+    pub carriage: Carriage,
+    /// What became of the last packet that came in the last turn, as [`Host::deliver`] answered it,
+    /// where a packet came.
+    pub told: Option<HostDelivered>,
+    /// The buffer into which datagrams are received.
+    pub buffer: [u8; LINK_ROOM],
+    pub ghost room: { TURN_ROOM ≤ out.cap },
+}
+
+impl Node {
+    ghost use Rattle.std.specs.Prelude.{◌≡◌, ◌↔◌, [], ◌∷◌, None, IfOk};
+    ghost use Rattle.chaos_packet.specs.Count.{Rose};
+    ghost use Rattle.chaos_link.specs.Link.{Asks};
+    ghost use Rattle.chaos_node.specs.Halves.{RunsArrival, RunsTicks};
+    ghost use Rattle.chaos_node.specs.Link.{SendsLots, has_packets};
+    ghost use Rattle.chaos_node.specs.Station.{station};
+    ghost use Rattle.chaos_node.specs.Turn.{RunsClientTurn};
+
+    /// A node of a host, whose packets go out by the carriage. Its outbox has room for
+    /// [`TURN_ROOM`] packets.
+    ///
+    /// # Errors
+    /// No memory for the outbox.
+    pub fn new(alloc: Global, host: Host, carriage: Carriage) -> Result<Self, AllocError>
+        // A node is made of this host and this carriage. Nothing waits, there is room for a turn,
+        // and no answer to a packet is there.
+        ensures host { IfOk result (λ node. node.host ≡ host) }
+        ensures out { IfOk result (λ node. node.out ≡ record { packets = []; cap = TURN_ROOM }) }
+        ensures carriage { IfOk result (λ node. node.carriage ≡ carriage) }
+        ensures told { IfOk result (λ node. node.told ≡ None) }
+    {
+        Ok(Node {
+            host,
+            out: Outbox::new(alloc, TURN_ROOM)?,
+            carriage,
+            told: None,
+            buffer: [0; LINK_ROOM],
+        })
+    }
+
+    /// Sends all that waits, the oldest first, and answers whether anything waited.
+    pub fn send<L: Link>(&mut self, link: &mut L) -> bool
+        // All that waits goes out by the node's carriage, each packet to its destination. Any link
+        // is asked just this, whatever the link answers.
+        ensures sends { SendsLots (Asks (L.asked link.old) (L.asked link.new)) self.old.carriage
+            (L.queue link.old) (self.old.out.packets ∷ []) (L.queue link.new) }
+        // Nothing waits afterwards.
+        ensures outbox { self.new.out ≡ record { packets = []; cap = self.old.out.cap } }
+        // The answer is whether anything waited.
+        ensures told { result ≡ has_packets (self.old.out.packets ∷ []) }
+        // The node's host and carriage are as they were.
+        ensures host { self.new.host ≡ self.old.host }
+        ensures carriage { self.new.carriage ≡ self.old.carriage }
+    {
+        send_all(link, &mut self.out, self.carriage)
+    }
+
+    /// One turn of the host: [`client_turn`](crate::client_turn) over what the node has.
+    pub fn turn<L: Link>(&mut self, link: &mut L, now: u64, may_wait: bool) -> TurnEnd
+        // The answer is LinkFault exactly where the link's count of failures rose in the turn, or
+        // stands at its greatest.
+        ensures fault { (result ≡ TurnEnd.LinkFault) ↔ Rose (L.count link.old) (L.count link.new) }
+        // A node's turn is a client's turn of its host by its carriage. What waited goes out before
+        // anything is received, what came is delivered before the ticks, and what these put out
+        // goes out. What became of the last packet that came in this turn is left in the node, and
+        // none where none came. The link is asked as in a client's turn.
+        ensures turn { RunsClientTurn (Asks (L.asked link.old) (L.asked link.new)) may_wait
+            self.old.carriage now (station self.old.host (L.queue link.old) self.old.out)
+            (station self.new.host (L.queue link.new) self.new.out) result self.new.told }
+        // Nothing waits afterwards, and the node has the room and the carriage that it had.
+        ensures outbox { self.new.out ≡ record { packets = []; cap = self.old.out.cap } }
+        ensures carriage { self.new.carriage ≡ self.old.carriage }
+    {
+        client_turn(
+            &mut self.host,
+            link,
+            now,
+            &mut self.out,
+            &mut self.told,
+            self.carriage,
+            &mut self.buffer,
+            may_wait,
+        )
+    }
+
+    /// The first half of a turn: sends what waits, receives at most one datagram, and delivers its
+    /// packets in order.
+    ///
+    /// Then the node's owner serves: it makes the host's own calls, sends what these put out by
+    /// [`Node::send`], and ends the turn by [`Node::tick`].
+    pub fn receive<L: Link>(&mut self, link: &mut L, now: u64, may_wait: bool) -> Half
+        // The link's count of failures before the turn is reported.
+        ensures failures { result.failures ≡ L.count link.old }
+        // What waits is sent, then the link is asked once to receive, for which it may wait exactly
+        // where `may_wait` says so, and what came is delivered. Any link is asked just this, and to
+        // send what the delivery puts out. Whether there was work is reported. What became of the
+        // last packet is left in the node, and none where none came. The host has as many slots as
+        // before.
+        ensures arrival { RunsArrival (Asks (L.asked link.old) (L.asked link.new)) may_wait
+            self.old.carriage now (station self.old.host (L.queue link.old) self.old.out)
+            (station self.new.host (L.queue link.new) self.new.out) result.worked self.new.told }
+        // Nothing waits afterwards, and the node has the room and the carriage that it had.
+        ensures outbox { self.new.out ≡ record { packets = []; cap = self.old.out.cap } }
+        ensures carriage { self.new.carriage ≡ self.old.carriage }
+    {
+        let carriage = self.carriage;
+        let begun = begin(link, &mut self.out, carriage, &mut self.buffer, may_wait);
+        let mut turn = Turn {
+            host: &mut self.host,
+            link,
+            out: &mut self.out,
+            carriage,
+            now,
+        };
+        let sent = turn.arrive(begun.came, &mut self.told);
+        Half {
+            failures: begun.failures,
+            worked: begun.worked || sent,
+        }
+    }
+
+    /// The second half of a turn: sends what waits, ticks each slot, and answers how the turn
+    /// ended.
+    pub fn tick<L: Link>(&mut self, link: &mut L, now: u64, half: Half) -> TurnEnd
+        // The answer is LinkFault exactly where the link's count of failures rose since the count
+        // in `half`, or stands at its greatest.
+        ensures fault { (result ≡ TurnEnd.LinkFault) ↔ Rose half.failures (L.count link.new) }
+        // What waits is sent, then each slot is ticked, and the link is asked for nothing else.
+        // Unless the link failed, Worked or Idle says whether there was work in either half. The
+        // host has as many slots as before.
+        ensures ticks { RunsTicks (Asks (L.asked link.old) (L.asked link.new)) self.old.carriage now
+            (station self.old.host (L.queue link.old) self.old.out)
+            (station self.new.host (L.queue link.new) self.new.out) half.worked result }
+        // The answer to the last packet that came stays.
+        ensures told { self.new.told ≡ self.old.told }
+        // Nothing waits afterwards, and the node has the room and the carriage that it had.
+        ensures outbox { self.new.out ≡ record { packets = []; cap = self.old.out.cap } }
+        ensures carriage { self.new.carriage ≡ self.old.carriage }
+    {
+        let carriage = self.carriage;
+        let waited = send_all(link, &mut self.out, carriage);
+        let mut turn = Turn {
+            host: &mut self.host,
+            link,
+            out: &mut self.out,
+            carriage,
+            now,
+        };
+        let ticked = turn.tick_slots();
+        let sent = any_of(waited, ticked, false);
+        end_of(half.failures, turn.link.failures(), half.worked, sent)
+    }
+}

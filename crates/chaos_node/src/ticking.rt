@@ -1,0 +1,43 @@
+//! What is due in each slot.
+ghost use Rattle.std.specs.Prelude.{◌≤◌, length};
+ghost use Rattle.chaos_node.specs.InTurn.{TurnDoes};
+ghost use Rattle.chaos_node.specs.Phase.{over_slots};
+ghost use Rattle.chaos_node.specs.Slots.{tick_at};
+
+use crate::limits::TURN_ROOM;
+use crate::sending::send_singly;
+use crate::turn::Turn;
+use chaos_link::Link;
+
+impl<L: Link> Turn<'_, L> {
+    /// Ticks the connection in each slot, and answers whether packets went out.
+    pub fn tick_slots(&mut self) -> bool
+        // Each slot is ticked, in rising order. After each tick what it put out is sent, each
+        // packet in a datagram of its own. The answer is whether any packet was sent.
+        ensures { TurnDoes self.old self.new
+            (over_slots (tick_at self.old.now) (length self.old.host.now.slots) self.old.host.now)
+            result }
+    {
+        // A configuration has a send window of at most 64 packets, so that the outbox has room for
+        // a tick.
+        let _window = self.host.config().send_cap();
+        let mut sent = false;
+        let mut from = 0;
+        'slots: while let Some(place) = self.host.next_in_use(from) {
+            sent = self.tick_slot(place) || sent;
+            from = place + 1;
+        }
+        sent
+    }
+
+    /// Ticks the connection in a slot, sends each packet that the tick puts out in a datagram of
+    /// its own, and answers whether packets went out.
+    #[tactic(auto, using(crate::proofs::Phase::put_into_empty))]
+    fn tick_slot(&mut self, place: usize) -> bool
+        requires window { self.old.host.now.config.send_cap ≤ TURN_ROOM }
+        ensures { TurnDoes self.old self.new (tick_at self.old.now place self.old.host.now) result }
+    {
+        let _ = self.host.tick(place, self.now, self.out);
+        send_singly(self.link, self.out, self.carriage)
+    }
+}

@@ -1,5 +1,0 @@
-use Rattle.chaos_system.proofs.Queue.{sockets_post}
-use Rattle.chaos_system.proofs.law.law_sockets.Goals as goal
-
-pub returns : goal.returns
-returns g c = sockets_post g.S.DatagramSocket.asked g.S.DatagramSocket.began

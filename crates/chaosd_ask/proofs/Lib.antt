@@ -1,0 +1,5 @@
+pub mod Asking
+pub mod Handed
+pub mod Noted
+pub mod Serving
+pub mod Noting

@@ -1,0 +1,7 @@
+pub mod Command
+pub mod Printed
+pub mod Script
+pub mod Conversation
+pub mod Asking
+pub mod Notes
+pub mod Serving

@@ -1,8 +1,0 @@
-use Rattle.chaosd_copy.specs.Talk.{silence}
-use Rattle.chaosd_copies.proofs.Ending.{done_then}
-use Rattle.chaosd_copies.proofs.session.Session.get_on.Goals as goal
-
-pub returns : goal.returns
-returns g c =
-    let was = c.args.self.now.talk in
-    done_then c.get_file-end.result _ _ (λ since. (was, since.goes was silence (g.T.Talk.began was))) c.get_file-end.ensures.done

@@ -1,6 +1,0 @@
-pub mod Status
-pub mod Outcome
-pub mod Progress
-pub mod Naming
-pub mod Runs
-pub mod Copied

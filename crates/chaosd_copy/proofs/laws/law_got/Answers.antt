@@ -1,5 +1,0 @@
-use Rattle.chaosd_copy.proofs.Got.{got}
-use Rattle.chaosd_copy.proofs.laws.law_got.Goals as goal
-
-pub returns : goal.returns
-returns c = got

@@ -1,5 +1,0 @@
-use Rattle.chaosd_copy.proofs.Named.{logs_in_named}
-use Rattle.chaosd_copy.proofs.laws.law_login.Goals as goal
-
-pub returns : goal.returns
-returns c = logs_in_named

@@ -1,5 +1,0 @@
-use Rattle.chaosd_copy.proofs.Whole.{puts}
-use Rattle.chaosd_copy.proofs.laws.law_put.Goals as goal
-
-pub returns : goal.returns
-returns c = puts

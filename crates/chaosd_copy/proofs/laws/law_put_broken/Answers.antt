@@ -1,5 +1,0 @@
-use Rattle.chaosd_copy.proofs.Whole.{put_broken}
-use Rattle.chaosd_copy.proofs.laws.law_put_broken.Goals as goal
-
-pub returns : goal.returns
-returns c = put_broken

@@ -1,5 +1,0 @@
-use Rattle.chaosd_copy.proofs.Named.{can_copy}
-use Rattle.chaosd_copy.proofs.laws.law_tids.Goals as goal
-
-pub returns : goal.returns
-returns c = can_copy

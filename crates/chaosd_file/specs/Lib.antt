@@ -1,6 +1,0 @@
-pub mod Command
-pub mod Printed
-pub mod Script
-pub mod Conversation
-pub mod Asking
-pub mod Notes

@@ -1,0 +1,88 @@
+//! Commands in a row, each spelled when it is sent.
+ghost use Rattle.std.specs.Prelude.{◌≡◌, ◌≤◌, ◌<◌, ◌*◌, length, take, drop};
+ghost use Rattle.chaos_file.specs.Views.{command_view, CommandFits};
+ghost use Rattle.file_copy.specs.Copy.{chunk};
+ghost use Rattle.file_copy.specs.Row.{RequestFits, command_at, handle_of, request_command};
+
+use crate::limits::HANDLE;
+use chaos_file::{Command, CommandBytes, MAX_CHUNK, write_command};
+use itoa::Buffer;
+
+/// A row of commands, named by numbers from `first` on.
+#[derive(Clone, Copy)]
+pub struct Row<'a> {
+    pub first: u32,
+    pub count: usize,
+    /// The command that is sent at each place. A WRITE holds the whole file here, and at each place
+    /// its piece is sent.
+    pub command: Command<'a>,
+}
+
+/// At most so many bytes of the front.
+fn at_most(bytes: &[u8], most: usize) -> &[u8]
+    ensures value { result.now ≡ take most bytes.now }
+    ensures short { length result.now ≤ most }
+{
+    if bytes.len() <= most {
+        bytes
+    } else {
+        &bytes[..most]
+    }
+}
+
+/// What stands behind so many bytes.
+fn behind(bytes: &[u8], from: usize) -> &[u8]
+    ensures { result.now ≡ drop from bytes.now }
+{
+    if from >= bytes.len() {
+        &[]
+    } else {
+        &bytes[from..]
+    }
+}
+
+/// A piece of a file.
+fn piece(bytes: &[u8], i: usize) -> &[u8]
+    requires { i ≤ 1000000 }
+    ensures value { result.now ≡ chunk bytes.now i }
+    ensures short { length result.now ≤ MAX_CHUNK }
+{
+    at_most(behind(bytes, MAX_CHUNK * i), MAX_CHUNK)
+}
+
+/// The command at a place of the row.
+fn command_at<'a>(command: Command<'a>, i: usize) -> Command<'a>
+    requires place { i ≤ 1000000 }
+    requires fits { RequestFits (command_view command) }
+    ensures value { command_view result ≡ command_at (command_view command.entry) i }
+    ensures fits { CommandFits (command_view result) }
+{
+    match command {
+        Command::Write(bytes) => Command::Write(piece(bytes, i)),
+        other => other,
+    }
+}
+
+/// The handle that a command is sent with.
+fn handle_of(command: &Command<'_>) -> &'static [u8]
+    ensures value { result.now ≡ handle_of (command_view command.now) }
+    ensures short { length result.now ≤ 8 }
+{
+    match command {
+        Command::Login(_) | Command::Rename(_, _) | Command::Delete(_) => b"",
+        _ => HANDLE,
+    }
+}
+
+/// Writes the command that is sent at a place of the row, which is named by this number, in place
+/// of what was there.
+pub fn spell_at(command: Command<'_>, i: usize, tid: u32, out: &mut CommandBytes)
+    requires place { i ≤ 1000000 }
+    requires tid { tid < 100000000 }
+    requires fits { RequestFits (command_view command) }
+    ensures { out.new.items ≡ request_command (command_view command.entry) i tid }
+{
+    let mut digits = Buffer::new();
+    let name = digits.format(tid as usize).as_bytes();
+    write_command(name, handle_of(&command), command_at(command, i), out);
+}

@@ -1,0 +1,143 @@
+-- Walks over the slots in use alone: a free slot is not served, has nothing to serve, and ends nothing.
+use Rattle.std.proofs.Common.{◌≡◌, zero, suc, ℕ, ◌<◌, ◌≤◌, Bool, true, false, if◌then◌else◌, List, [], Option, arith, inl, inr, refl, ap, sym, ◌∙◌, append-nil, subst}
+use Rattle.std.proofs.lemmas.Bool.{cases_lt}
+use Rattle.chaos_packet.specs.Packet.{PacketView}
+use Rattle.chaos_host.specs.Slot.{is_used_at}
+use Rattle.chaos_host.specs.View.{HostView, id_at}
+use Rattle.chaos_link.specs.Link.{Ask}
+use Rattle.chaos_link.specs.declared.carriage.Carriage.{Carriage}
+use Rattle.chaos_link.specs.declared.link.Link.{Ghosts}
+use Rattle.chaos_node.specs.Station.{Station}
+use Rattle.chaos_node.specs.declared.turn.Turn.{Turn}
+use Rattle.chaos_node.proofs.Free.{PassesFree, by_index, id_of_free}
+use Rattle.file_server.specs.InTurn.{ServerTurnDoes}
+use Rattle.file_server.specs.Serve.{ServerDoes, ServesPlaceBy, ServesSlotBy, ServesSlotsBy, Uses}
+use Rattle.file_server.specs.Server.{Server}
+use Rattle.file_server.specs.Sessions.{Serving, serving_at}
+use Rattle.file_server.specs.Slots.{EndsNothing, EndsNothingAt, IsIdle, close_at, close_for, release_at, release_by}
+use Rattle.file_server.specs.Waiting.{serves_by, serves_within}
+
+-- The slots from one place to another are free.
+abbrev pub AreFree : HostView → ℕ → ℕ → Type 0
+AreFree h m n = (k : ℕ) → m ≤ k → k < n → is_used_at h.slots k ≡ false
+
+less_free : (h : HostView) (m n : ℕ) → AreFree h m (suc n) → AreFree h m n
+less_free h m n free k from under = free k from (omega arith)
+
+-- ---- phases
+
+pub closes_pass : (silence : Option ℕ) (now : ℕ) (sessions : List Serving) → PassesFree (close_at silence now sessions)
+closes_pass silence now sessions =
+    by_index (λ place h there. close_for silence now (serving_at sessions place) h there) (λ place h. refl)
+
+pub releases_pass : PassesFree release_at
+releases_pass = by_index (λ place h there. release_by h there) (λ place h. refl)
+
+-- ---- slots that end nothing
+
+free_ends_nothing : (silence : Option ℕ) (now : ℕ) (sessions : List Serving) (h : HostView) (place : ℕ)
+    → is_used_at h.slots place ≡ false → EndsNothingAt silence now sessions h place
+free_ends_nothing silence now sessions h place free =
+    let none = sym (id_of_free h place free) in (
+      subst (λ (o : Option ℕ). IsIdle (close_for silence now (serving_at sessions place) h o) h) none (refl, refl),
+      subst (λ (o : Option ℕ). IsIdle (release_by h o) h) none (refl, refl),
+    )
+
+pub ends_to : (silence : Option ℕ) (now : ℕ) (sessions : List Serving) (h : HostView) (m n : ℕ) → m ≤ n
+    → AreFree h m n → EndsNothing silence now sessions h m → EndsNothing silence now sessions h n
+ends_to silence now sessions h m zero within free none =
+    let same : m ≡ 0 = omega arith in subst (λ (k : ℕ). EndsNothing silence now sessions h k) same none
+ends_to silence now sessions h m (suc n) within free none =
+    elim (cases_lt n m) as (λ _. EndsNothing silence now sessions h (suc n)) [
+      | inl all ↦
+          let same : m ≡ suc n = omega arith in subst (λ (k : ℕ). EndsNothing silence now sessions h k) same none
+      | inr less ↦
+          let below : n < suc n = omega arith in (
+            ends_to silence now sessions h m n less (less_free h m n free) none,
+            free_ends_nothing silence now sessions h n (free n less below),
+          )
+    ]
+
+-- ---- what can be served
+
+pub serves_to : (h : HostView) (m n : ℕ) → m ≤ n → AreFree h m n → serves_within n h ≡ serves_within m h
+serves_to h m zero within free =
+    let same : 0 ≡ m = omega arith in ap (λ (k : ℕ). serves_within k h) same
+serves_to h m (suc n) within free =
+    elim (cases_lt n m) as (λ _. serves_within (suc n) h ≡ serves_within m h) [
+      | inl all ↦ let same : suc n ≡ m = omega arith in ap (λ (k : ℕ). serves_within k h) same
+      | inr less ↦
+          let below : n < suc n = omega arith in
+          ap (λ (o : Option ℕ). if serves_within n h then true else serves_by h o)
+          (id_of_free h n (free n less below))
+          ∙ (or_none (serves_within n h) ∙ serves_to h m n less (less_free h m n free))
+    ]
+  where
+    or_none : (b : Bool) → (if b then true else false) ≡ b
+    or_none true = refl
+    or_none false = refl
+
+-- what can be served among the first slots can be among more
+pub serves_on : (h : HostView) (m n : ℕ) → m ≤ n → serves_within m h ≡ true → serves_within n h ≡ true
+serves_on h m zero within found =
+    let same : 0 ≡ m = omega arith in ap (λ (k : ℕ). serves_within k h) same ∙ found
+serves_on h m (suc n) within found =
+    elim (cases_lt n m) as (λ _. serves_within (suc n) h ≡ true) [
+      | inl all ↦ let same : suc n ≡ m = omega arith in ap (λ (k : ℕ). serves_within k h) same ∙ found
+      | inr less ↦ rw (serves_on h m n less found) refl
+    ]
+
+-- the slot at a place has something to serve
+pub serves_here : (h : HostView) (place : ℕ) → serves_by h (id_at h place) ≡ true
+    → serves_within (suc place) h ≡ true
+serves_here h place found = either (serves_within place h) (serves_by h (id_at h place)) found
+  where
+    either : (b c : Bool) → c ≡ true → (if b then true else c) ≡ true
+    either true c e = refl
+    either false c e = e
+
+-- nor does it, and no slot before it
+pub serves_none : (h : HostView) (place : ℕ) → serves_within place h ≡ false → serves_by h (id_at h place) ≡ false
+    → serves_within (suc place) h ≡ false
+serves_none h place before here = rw before here
+
+-- ---- serving
+
+module _ {S : Type 0} (uses : Uses S) where
+  serves_passed : (now m n : ℕ) (s t : Server S) (lots : List (List PacketView)) → m ≤ n → AreFree t.host m n
+      → ServesSlotsBy uses now m s t lots → ServesSlotsBy uses now n s t lots
+  serves_passed now m zero s t lots within free served =
+      let same : m ≡ 0 = omega arith in subst (λ (k : ℕ). ServesSlotsBy uses now k s t lots) same served
+  serves_passed now m (suc n) s t lots within free served =
+      elim (cases_lt n m) as (λ _. ServesSlotsBy uses now (suc n) s t lots) [
+        | inl all ↦
+            let same : m ≡ suc n = omega arith in subst (λ (k : ℕ). ServesSlotsBy uses now k s t lots) same served
+        | inr less ↦
+            let below : n < suc n = omega arith in
+            let none = sym (id_of_free t.host n (free n less below)) in
+            let passed : ServesSlotBy uses now n t t [] =
+            subst (λ (o : Option ℕ). ServesPlaceBy uses now n o t t []) none (refl, refl) in
+            (t, lots, [], serves_passed now m n s t lots less (less_free t.host m n free) served, passed, sym (append-nil lots))
+      ]
+
+  slots_passed : (asked : List Ask → Type 0) (carriage : Carriage) (now m n : ℕ) (a b : Station (Server S)) (sent : Bool)
+      → m ≤ n → AreFree b.node.host m n → ServerDoes asked carriage (ServesSlotsBy uses now m) a b sent
+      → ServerDoes asked carriage (ServesSlotsBy uses now n) a b sent
+  slots_passed asked carriage now m n a b sent within free done = record {
+    lots = done.lots;
+    done = serves_passed now m n a.node b.node done.lots within free done.done;
+    sends = done.sends;
+    outbox = done.outbox;
+    told = done.told;
+    config = done.config;
+    size = done.size;
+    count = done.count;
+  }
+
+  -- the first slots were served, and those behind them are free
+  pub served_to : {L : Type 0} {G : Ghosts L} (a b : Turn L G) (m n : ℕ) (xs ys : List Serving) (s t : S) (sent : Bool)
+      → m ≤ n → AreFree b.host.now m n
+      → ServerTurnDoes a b (ServesSlotsBy uses a.now m) xs ys s t sent
+      → ServerTurnDoes a b (ServesSlotsBy uses a.now n) xs ys s t sent
+  served_to a b m n xs ys s t sent within free done =
+      (slots_passed _ a.carriage a.now m n _ _ sent within free done.0, done.1)

@@ -1,0 +1,7 @@
+pub mod Status
+pub mod Outcome
+pub mod Progress
+pub mod Naming
+pub mod Runs
+pub mod Copied
+pub mod Settling

@@ -1,0 +1,108 @@
+-- What came of one file.
+use Rattle.std.specs.Prelude.{Bool, true, false}
+use Rattle.std.specs.IoError.{error_kind}
+use Rattle.std.specs.declared.io.ErrorKind.{ErrorKind}
+use Rattle.std.specs.declared.io.ErrorKind.TheVariants as k
+use Rattle.chaos_node.specs.declared.fault.NodeFault.{NodeFault}
+use Rattle.chaos_node.specs.declared.fault.NodeFault.TheVariants as n
+use Rattle.file_transfer.specs.declared.status.ExitStatus.{ExitStatus}
+use Rattle.file_transfer.specs.declared.status.ExitStatus.TheVariants as s
+use Rattle.file_transfer.specs.declared.outcome.Contents.{Contents}
+use Rattle.file_transfer.specs.declared.outcome.Outcome.{Outcome}
+use Rattle.file_transfer.specs.declared.outcome.Outcome.TheVariants.{Copied, Changed, Garbled, TooBig, TooLong, Unnamed, Unread, Unwritten, Failed, Refused, Strange, Unanswered, Unknown, NotTried}
+
+-- out of memory, or another fault of this side
+abbrev pub status_of_kind : ErrorKind → ExitStatus
+status_of_kind k.OutOfMemory = s.NoMemory
+status_of_kind _ = s.Fault
+
+-- out of memory, or a fault of a link or of the clock
+abbrev pub status_of_node : NodeFault → ExitStatus
+status_of_node n.NoMemory = s.NoMemory
+status_of_node n.Link = s.Fault
+status_of_node n.Clock = s.Fault
+
+-- all is well only where the file was copied, or was changed as was asked
+abbrev pub status_of : {W : Type 0} → Outcome W → ExitStatus
+status_of (Copied contents) = s.Done
+status_of Changed = s.Done
+status_of (Garbled lost) = s.Refused
+status_of TooBig = s.Refused
+status_of TooLong = s.Refused
+status_of Unnamed = s.Refused
+status_of (Unread fault) = status_of_kind (error_kind fault)
+status_of (Unwritten fault) = status_of_kind (error_kind fault)
+status_of (Failed fault) = status_of_node fault
+status_of (Refused reply) = s.Refused
+status_of (Strange reply) = s.Refused
+status_of (Unanswered why) = s.Refused
+status_of (Unknown why) = s.Refused
+status_of NotTried = s.Refused
+
+-- whether what was asked for was done
+abbrev pub is_well : {W : Type 0} → Outcome W → Bool
+is_well (Copied contents) = true
+is_well Changed = true
+is_well (Garbled lost) = false
+is_well TooBig = false
+is_well TooLong = false
+is_well Unnamed = false
+is_well (Unread fault) = false
+is_well (Unwritten fault) = false
+is_well (Failed fault) = false
+is_well (Refused reply) = false
+is_well (Strange reply) = false
+is_well (Unanswered why) = false
+is_well (Unknown why) = false
+is_well NotTried = false
+
+-- whether the next file is tried: not after a fault of the run, nor where the connection may be bad
+abbrev pub goes_on : {W : Type 0} → Outcome W → Bool
+goes_on (Copied contents) = true
+goes_on Changed = true
+goes_on (Garbled lost) = true
+goes_on TooBig = true
+goes_on TooLong = true
+goes_on Unnamed = true
+goes_on (Unread fault) = true
+goes_on (Unwritten fault) = true
+goes_on (Failed fault) = false
+goes_on (Refused reply) = true
+goes_on (Strange reply) = false
+goes_on (Unanswered why) = false
+goes_on (Unknown why) = false
+goes_on NotTried = false
+
+-- P of a file that was copied, and Q of another
+abbrev pub MatchCopied : {W : Type 0} → Outcome W → (Contents → Type 0) → Type 0 → Type 0
+MatchCopied (Copied contents) P Q = P contents
+MatchCopied Changed P Q = Q
+MatchCopied (Garbled lost) P Q = Q
+MatchCopied TooBig P Q = Q
+MatchCopied TooLong P Q = Q
+MatchCopied Unnamed P Q = Q
+MatchCopied (Unread fault) P Q = Q
+MatchCopied (Unwritten fault) P Q = Q
+MatchCopied (Failed fault) P Q = Q
+MatchCopied (Refused reply) P Q = Q
+MatchCopied (Strange reply) P Q = Q
+MatchCopied (Unanswered why) P Q = Q
+MatchCopied (Unknown why) P Q = Q
+MatchCopied NotTried P Q = Q
+
+-- P where a file was changed
+abbrev pub IfChanged : {W : Type 0} → Outcome W → Type 0 → Type 0
+IfChanged (Copied contents) P = Unit {0}
+IfChanged Changed P = P
+IfChanged (Garbled lost) P = Unit {0}
+IfChanged TooBig P = Unit {0}
+IfChanged TooLong P = Unit {0}
+IfChanged Unnamed P = Unit {0}
+IfChanged (Unread fault) P = Unit {0}
+IfChanged (Unwritten fault) P = Unit {0}
+IfChanged (Failed fault) P = Unit {0}
+IfChanged (Refused reply) P = Unit {0}
+IfChanged (Strange reply) P = Unit {0}
+IfChanged (Unanswered why) P = Unit {0}
+IfChanged (Unknown why) P = Unit {0}
+IfChanged NotTried P = Unit {0}

@@ -1,0 +1,58 @@
+-- A run over files, one after another.
+use Rattle.std.specs.Prelude.{◌≡◌, ℕ, Bool, true, false, List, [], ◌∷◌, ◌++◌, map, Option, option_map}
+use Rattle.std.specs.List.{list_all}
+use Rattle.file_transfer.specs.declared.status.ExitStatus.{ExitStatus}
+use Rattle.file_transfer.specs.declared.status.ExitStatus.TheVariants as s
+use Rattle.file_transfer.specs.declared.outcome.Outcome.{Outcome}
+use Rattle.file_transfer.specs.declared.outcome.Outcome.TheVariants.{NotTried}
+use Rattle.file_transfer.specs.Status.{worse, is_done}
+use Rattle.file_transfer.specs.Outcome.{status_of, is_well, goes_on}
+
+-- a file that was tried or not, and what came of it
+pub record Tried (F W : Type 0) : Type 0 where
+  pub file : F
+  pub outcome : Outcome W
+
+-- what is told of it, under its name
+pub record Told (W : Type 0) : Type 0 where
+  pub name : List ℕ
+  pub outcome : Outcome W
+
+abbrev pub told_of : {F W : Type 0} → (F → List ℕ) → List (Tried F W) → List (Told W)
+told_of name files = map (λ f. record { name = name f.file; outcome = f.outcome }) files
+
+-- the worst of a status and of what came of files
+abbrev pub worst_from : {F W : Type 0} → ExitStatus → List (Tried F W) → ExitStatus
+worst_from status [] = status
+worst_from status (file ∷ files) = worst_from (worse status (status_of file.outcome)) files
+
+abbrev pub all_well : {F W : Type 0} → List (Tried F W) → Bool
+all_well files = list_all (λ file. is_well file.outcome) files
+
+-- what was told, and these files behind it
+abbrev pub told_after : {W : Type 0} → List (Told W) → Option (List (Told W)) → Option (List (Told W))
+told_after files told = option_map (λ before. before ++ files) told
+
+-- From a state on, files were tried one after another, with what came of each; once one ends the run, those behind it
+-- aren't tried.
+pub data Tries {C F W : Type 0} (one : C → F → Outcome W → C → Type 0) (start : C) : List (Tried F W) → Bool → C
+    → Type 0 where
+  none : Tries one start [] true start
+  tried : (files : List (Tried F W)) (c d : C) (file : F) (outcome : Outcome W) → Tries one start files true c
+      → one c file outcome d
+      → Tries one start (files ++ record { file = file; outcome = outcome } ∷ []) (goes_on outcome) d
+  left : (files : List (Tried F W)) (c : C) (file : F) → Tries one start files false c
+      → Tries one start (files ++ record { file = file; outcome = NotTried } ∷ []) false c
+
+-- A run over these files: what came of each was told under its name, in their order, its status is the worst, and all is
+-- well exactly where what was asked for was done with each.
+pub record Runs {C F W : Type 0} (one : C → F → Outcome W → C → Type 0) (name : F → List ℕ) (start : C)
+    (told : Option (List (Told W))) (files : List F) (status : ExitStatus) (goes : Bool) (now : C)
+    (told_now : Option (List (Told W))) : Type 0
+  where
+    pub tries : List (Tried F W)
+    pub files_are : map (λ t. t.file) tries ≡ files
+    pub tried : Tries one start tries goes now
+    pub telling : told_now ≡ told_after (told_of name tries) told
+    pub worst : status ≡ worst_from s.Done tries
+    pub all : is_done status ≡ all_well tries

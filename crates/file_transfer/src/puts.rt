@@ -1,0 +1,86 @@
+//! Files that are put.
+ghost use Rattle.std.specs.Prelude.{◌≡◌, ◌≤◌, false, Some, List, ℕ, length, IfOk, IfErr, option_map};
+ghost use Rattle.chaos_file.specs.declared.limits.TheConstants.{MAX_FILE, MAX_PATH};
+ghost use Rattle.file_copy.specs.declared.text.Charset.{Charset};
+ghost use Rattle.file_transfer.specs.Outcome.{is_well, MatchCopied};
+ghost use Rattle.file_transfer.specs.Copied.{HasPut, PutsWhole, bytes_in, contents_of};
+
+use crate::copier::Copier;
+use crate::local::Locals;
+use crate::naming::PutFile;
+use crate::outcome::{Contents, Outcome};
+use crate::session::Session;
+use crate::text::{has_returns, in_set};
+use crate::viewer::Viewer;
+use file_copy::{Charset, Talk};
+
+/// A user who puts local files, each to a path of the server's.
+#[derive(Drop)]
+pub struct Puts<'a, T: Talk, L: Locals, V: Viewer> {
+    /// The user's talk with the server.
+    pub session: Session<'a, T, V>,
+    /// The local files.
+    pub locals: L,
+    /// Whether they are texts.
+    pub is_text: bool,
+    /// Whether a digest of each is told.
+    pub is_digested: bool,
+}
+
+impl<T: Talk, L: Locals, V: Viewer> Puts<'_, T, L, V> {
+    /// Puts the bytes that were read of a local file.
+    fn put_bytes(
+        &mut self,
+        local: &str,
+        path: &[u8],
+        bytes: Vec<u8>,
+    ) -> Result<Contents, Outcome<T::NoReply>>
+        requires path { length path.now ≤ MAX_PATH }
+        requires fits { length bytes.items ≤ MAX_FILE }
+        ensures put { IfOk result
+            (λ contents. HasPut path.now (bytes_in Charset.LispMachine self.old.is_text bytes.items)
+            (T.talked self.new.session.talk)
+            × (contents ≡ contents_of self.old.is_digested bytes.items)) }
+        ensures missed { IfErr result (λ outcome. is_well outcome ≡ false) }
+        ensures same { (self.new.is_text ≡ self.old.is_text)
+            × (self.new.is_digested ≡ self.old.is_digested) }
+    {
+        if self.is_text && has_returns(bytes.as_slice()) {
+            let session = &mut self.session;
+            session.viewer.tell_returns(local);
+        }
+        let contents = Contents::of(bytes.as_slice(), self.is_digested);
+        match in_set(Charset::LispMachine, self.is_text, bytes) {
+            Ok(sent) => self.session.put(local, path, sent.as_slice())?,
+            Err(lost) => return Err(Outcome::Garbled(lost)),
+        }
+        Ok(contents)
+    }
+}
+
+impl<'a, T: Talk, L: Locals, V: Viewer> Copier for Puts<'a, T, L, V> {
+    type File = PutFile<'a>;
+
+    type Why = T::NoReply;
+
+    /// A file is told as copied only where the last that was sent and received is all that puts
+    /// what the local file has, as a text where that is asked for, to the path that it goes to.
+    ghost tries = { λ old file outcome new. MatchCopied outcome
+        (λ contents. (path : List ℕ) × (option_map (λ p. p.items) file.path ≡ Some path)
+        × PutsWhole path (L.held old.locals file.local.now) old.is_text old.is_digested contents
+        (T.talked new.session.talk))
+        (Unit {0})
+        × ((new.is_text ≡ old.is_text) × (new.is_digested ≡ old.is_digested)) };
+
+    /// The file is read whole before anything is sent.
+    fn copy(&mut self, file: &PutFile<'a>) -> Outcome<T::NoReply> {
+        let Some(path) = &file.path else {
+            return Outcome::Unnamed;
+        };
+        match self.locals.read(file.local) {
+            Ok(Some(bytes)) => Outcome::of(self.put_bytes(file.local, path.as_slice(), bytes)),
+            Ok(None) => Outcome::TooBig,
+            Err(fault) => Outcome::Unread(fault),
+        }
+    }
+}

@@ -1,0 +1,179 @@
+//! A user who copies files over one connection after another.
+ghost use Rattle.std.specs.Prelude.{◌≡◌, ◌≤◌, [], false, length, IfErr, OnOk, Ok};
+ghost use Rattle.chaos_file.specs.declared.limits.TheConstants.{MAX_FILE, MAX_NAME, MAX_PATH};
+ghost use Rattle.file_copy.specs.Ends.{IfDone};
+ghost use Rattle.file_transfer.specs.Copied.{HasDeleted, HasGot, HasPut, HasRenamed};
+ghost use Rattle.file_transfer.specs.Settling.{ComesTo, change_end};
+ghost use Rattle.file_transfer.specs.Outcome.{is_well};
+
+use crate::outcome::Outcome;
+use crate::settling::{change_end, settle};
+use crate::viewer::Viewer;
+use chaos_node::NodeFault;
+use file_copy::{CopyEnd, Talk, delete_file, get_file, log_in, put_file, rename_file};
+
+/// The number from which on a file's commands are named. Each file begins with it: a reply that is
+/// still on its way finds a connection that is gone, since one is made anew after each file whose
+/// replies were not all received.
+const FIRST: u32 = 1;
+
+/// A user who copies files over a connection, which is made anew after a file that wasn't copied:
+/// then replies may still be on their way.
+#[derive(Drop)]
+pub struct Session<'a, T: Talk, V: Viewer> {
+    /// The talk with the server.
+    pub talk: T,
+    /// Whoever is shown how far a file has come.
+    pub viewer: V,
+    login: &'a str,
+    /// Whether the user has logged in, and every reply was received.
+    is_in: bool,
+    ghost login_fits: { length login.now ≤ MAX_NAME },
+}
+
+impl<'a, T: Talk, V: Viewer> Session<'a, T, V> {
+    /// Nothing is sent yet.
+    pub fn new(talk: T, viewer: V, login: &'a str) -> Self
+        requires { length login.now ≤ MAX_NAME }
+        // The session has the talk and the viewer that were handed in.
+        ensures { (result.talk ≡ talk) × (result.viewer ≡ viewer) }
+    {
+        Session {
+            talk,
+            viewer,
+            login,
+            is_in: false,
+        }
+    }
+
+    /// Asks for a connection and logs in, where that isn't done.
+    fn begin(&mut self) -> Result<CopyEnd, NodeFault> {
+        if self.is_in {
+            return Ok(CopyEnd::Done);
+        }
+        self.talk.connect()?;
+        log_in(&mut self.talk, self.login.as_bytes(), &mut self.viewer)
+    }
+
+    /// Makes sure that there is a connection and that the user has logged in.
+    fn enter(&mut self) -> Result<(), Outcome<T::NoReply>>
+        ensures { IfErr result (λ outcome. is_well outcome ≡ false) }
+    {
+        let end = self.begin();
+        settle(&mut self.talk, end)
+    }
+
+    /// Gets a file over a connection that has begun.
+    fn get_on(&mut self, path: &[u8], bytes: &mut Vec<u8>) -> Result<CopyEnd, NodeFault>
+        requires path { length path.now ≤ MAX_PATH }
+        requires empty { bytes.old.items ≡ [] }
+        ensures { IfDone result
+            (HasGot path.now bytes.new.items (T.talked self.new.talk)) }
+    {
+        let end = get_file(&mut self.talk, FIRST, path, bytes, &mut self.viewer);
+        self.viewer.end();
+        self.is_in = matches!(end, Ok(CopyEnd::Done));
+        end
+    }
+
+    /// Gets a file, and shows how far it has come.
+    pub(crate) fn get(&mut self, path: &str, bytes: &mut Vec<u8>) -> Result<(), Outcome<T::NoReply>>
+        requires path { length path.now ≤ MAX_PATH }
+        requires empty { bytes.old.items ≡ [] }
+        ensures got { OnOk result
+            (HasGot path.now bytes.new.items (T.talked self.new.talk)) }
+        ensures missed { IfErr result (λ outcome. is_well outcome ≡ false) }
+    {
+        self.enter()?;
+        self.viewer.begin(path, self.talk.moment());
+        let end = self.get_on(path.as_bytes(), bytes);
+        settle(&mut self.talk, end)
+    }
+
+    /// Puts a file over a connection that has begun.
+    fn put_on(&mut self, path: &[u8], bytes: &[u8]) -> Result<CopyEnd, NodeFault>
+        requires path { length path.now ≤ MAX_PATH }
+        requires fits { length bytes.now ≤ MAX_FILE }
+        ensures { IfDone result (HasPut path.now bytes.now (T.talked self.new.talk)) }
+    {
+        let end = put_file(&mut self.talk, FIRST, path, bytes, &mut self.viewer);
+        self.viewer.end();
+        self.is_in = matches!(end, Ok(CopyEnd::Done));
+        end
+    }
+
+    /// Puts a file, and shows how far the local one has come.
+    pub(crate) fn put(
+        &mut self,
+        local: &str,
+        path: &[u8],
+        bytes: &[u8],
+    ) -> Result<(), Outcome<T::NoReply>>
+        requires path { length path.now ≤ MAX_PATH }
+        requires fits { length bytes.now ≤ MAX_FILE }
+        ensures put { OnOk result (HasPut path.now bytes.now (T.talked self.new.talk)) }
+        ensures missed { IfErr result (λ outcome. is_well outcome ≡ false) }
+    {
+        self.enter()?;
+        self.viewer.begin(local, self.talk.moment());
+        let end = self.put_on(path, bytes);
+        settle(&mut self.talk, end)
+    }
+
+    /// What came of a change that was asked for and ended so, where it wasn't made.
+    fn settle_change(&mut self, end: Result<CopyEnd, NodeFault>) -> Result<(), Outcome<T::NoReply>>
+        ensures ended { ComesTo (change_end end) result }
+        ensures done { OnOk result (end ≡ Ok CopyEnd.Done) }
+        ensures missed { IfErr result (λ outcome. is_well outcome ≡ false) }
+        ensures still { OnOk result (self.new.talk ≡ self.old.talk) }
+    {
+        self.is_in = matches!(end, Ok(CopyEnd::Done | CopyEnd::Refused(_)));
+        settle(&mut self.talk, change_end(end))
+    }
+
+    /// Has the server delete a file.
+    ///
+    /// # Errors
+    /// What came of it otherwise: it is `Unknown` whether that was done where the command got no
+    /// reply.
+    pub fn delete(&mut self, path: &[u8]) -> Result<(), Outcome<T::NoReply>>
+        requires { length path.now ≤ MAX_PATH }
+        // Where it is done, the last that was sent is the DELETE of this path, and the last that
+        // was received says that it was done.
+        ensures done { OnOk result (HasDeleted path.now (T.talked self.new.talk)) }
+        // Otherwise what came of it is no success.
+        ensures missed { IfErr result (λ outcome. is_well outcome ≡ false) }
+    {
+        self.enter()?;
+        let end = delete_file(&mut self.talk, FIRST, path, &mut self.viewer);
+        self.settle_change(end)
+    }
+
+    /// Has the server rename a file.
+    ///
+    /// # Errors
+    /// What came of it otherwise: it is `Unknown` whether that was done where the command got no
+    /// reply.
+    pub fn rename(&mut self, old: &[u8], new: &[u8]) -> Result<(), Outcome<T::NoReply>>
+        requires old { length old.now ≤ MAX_PATH }
+        requires new { length new.now ≤ MAX_PATH }
+        // Where it is done, the last that was sent is the RENAME of these paths, and the last that
+        // was received says that it was done.
+        ensures done { OnOk result (HasRenamed old.now new.now (T.talked self.new.talk)) }
+        // Otherwise what came of it is no success.
+        ensures missed { IfErr result (λ outcome. is_well outcome ≡ false) }
+    {
+        self.enter()?;
+        let end = rename_file(&mut self.talk, FIRST, old, new, &mut self.viewer);
+        self.settle_change(end)
+    }
+
+    /// Ends the connection, at once where nobody is there to reply. What fails then changes nothing
+    /// of what was copied.
+    pub fn end(&mut self)
+        // The viewer stays as it is.
+        ensures { self.new.viewer ≡ self.old.viewer }
+    {
+        self.talk.end(!self.viewer.is_gone());
+    }
+}

@@ -1,0 +1,47 @@
+//! What came of a file, by how its copy ended.
+ghost use Rattle.std.specs.Prelude.{◌≡◌, false, IfErr, OnOk, Ok};
+ghost use Rattle.file_transfer.specs.Settling.{ComesTo, change_end};
+ghost use Rattle.file_transfer.specs.Outcome.{is_well};
+
+use crate::outcome::Outcome;
+use chaos_node::NodeFault;
+use file_copy::{CopyEnd, Talk};
+
+/// What came of a file whose copy over this talk ended so, where it wasn't copied.
+///
+/// # Errors
+/// What came of the file otherwise.
+pub fn settle<T: Talk>(
+    talk: &mut T,
+    end: Result<CopyEnd, NodeFault>,
+) -> Result<(), Outcome<T::NoReply>>
+    // A copy that is done was well. A reply that refuses or answers nothing, a missing reply, an
+    // end that isn't known, and a fault each come to the outcome of that name, with the reply, with
+    // the reason that the talk gives, or with the fault.
+    ensures ended { ComesTo end result }
+    // It is well only where the copy is done.
+    ensures done { OnOk result (end ≡ Ok CopyEnd.Done) }
+    // Otherwise what came of it is no success.
+    ensures missed { IfErr result (λ outcome. is_well outcome ≡ false) }
+    // Where it is well, the talk is as it was.
+    ensures still { OnOk result (talk.new ≡ talk.old) }
+{
+    match end {
+        Ok(CopyEnd::Done) => Ok(()),
+        Ok(CopyEnd::Refused(reply)) => Err(Outcome::Refused(reply)),
+        Ok(CopyEnd::Strange(reply)) => Err(Outcome::Strange(reply)),
+        Ok(CopyEnd::NoReply) => Err(Outcome::Unanswered(talk.no_reply())),
+        Ok(CopyEnd::Unknown) => Err(Outcome::Unknown(talk.no_reply())),
+        Err(fault) => Err(Outcome::Failed(fault)),
+    }
+}
+
+/// How a change ended that was asked for: where no reply came, it isn't known whether it was made.
+pub(crate) fn change_end(end: Result<CopyEnd, NodeFault>) -> Result<CopyEnd, NodeFault>
+    ensures { result ≡ change_end end }
+{
+    match end {
+        Ok(CopyEnd::NoReply) => Ok(CopyEnd::Unknown),
+        end => end,
+    }
+}
