@@ -143,18 +143,19 @@ module _ {S : Type 0} (asked : S → S → List SocketAsk → Type 0) (old new i
       (sym (ap (λ (there : Option SocketAddrV4). outgoing_to there datagram.bytes ++ []) here)) step
 
   -- a receive that failed before it asked for a datagram, and one that asked
-  pub none_heard : (may_wait : Bool) (asks : List SocketAsk) → datagrams_in asks ≡ []
-      → Asks (asked inside.socket) (asked new.socket) asks
+  pub none_heard : (may_wait : Bool)
+      → (asks : List SocketAsk) × (datagrams_in asks ≡ []) × Asks (asked inside.socket) (asked new.socket) asks
       → Asks (AsksSocket asked old) (AsksSocket asked new) (Receive may_wait ∷ [])
-  none_heard may_wait asks none step = one_call (Receive may_wait) asks none step
+  none_heard may_wait set = one_call (Receive may_wait) set.0 set.1 set.2
 
-  pub one_heard : (may_wait : Bool) (mid : S) (asks : List SocketAsk) → datagrams_in asks ≡ []
-      → Asks (asked inside.socket) (asked mid) asks → Asks (asked mid) (asked new.socket) (ReceiveOne ∷ [])
+  pub one_heard : (may_wait : Bool) (mid : S)
+      → (asks : List SocketAsk) × (datagrams_in asks ≡ []) × Asks (asked inside.socket) (asked mid) asks
+      → Asks (asked mid) (asked new.socket) (ReceiveOne ∷ [])
       → Asks (AsksSocket asked old) (AsksSocket asked new) (Receive may_wait ∷ [])
-  one_heard may_wait mid asks none set step =
-      one_call (Receive may_wait) (asks ++ ReceiveOne ∷ [])
-      (datagrams_both asks (ReceiveOne ∷ []) ∙ ap (λ (ds : List Outgoing). ds ++ []) none)
-      (asks_both (asked inside.socket) (asked mid) (asked new.socket) asks (ReceiveOne ∷ []) set step)
+  one_heard may_wait mid set step =
+      one_call (Receive may_wait) (set.0 ++ ReceiveOne ∷ [])
+      (datagrams_both set.0 (ReceiveOne ∷ []) ∙ ap (λ (ds : List Outgoing). ds ++ []) set.1)
+      (asks_both (asked inside.socket) (asked mid) (asked new.socket) set.0 (ReceiveOne ∷ []) set.2 step)
 
 -- a datagram to nobody
 pub none_out : {S : Type 0} (asked : S → S → List SocketAsk → Type 0) (link : UdpView S) (datagram : Addressed)

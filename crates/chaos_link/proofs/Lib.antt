@@ -5,6 +5,7 @@ pub mod Canon
 pub mod Carried
 pub mod Cut
 pub mod Either
+pub mod Hears
 pub mod Made
 pub mod Several
 pub mod Turned

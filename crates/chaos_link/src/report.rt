@@ -15,23 +15,13 @@ pub struct LinkReport {
 }
 
 impl LinkReport {
-    /// A datagram came from this UDP address, and no call failed.
-    pub(crate) fn of_source(source: Option<SocketAddrV4>) -> Self
-        ensures { result ≡ record { source = source; fault = None } }
-    {
-        LinkReport {
-            source,
-            fault: None,
-        }
-    }
-
-    /// No datagram came, and this call failed, where any did.
-    pub(crate) fn of_fault(fault: Option<SocketFault>) -> Self
-        ensures { result ≡ record { source = None; fault = fault } }
+    /// No datagram came, and no call failed.
+    pub(crate) fn new() -> Self
+        ensures { result ≡ record { source = None; fault = None } }
     {
         LinkReport {
             source: None,
-            fault,
+            fault: None,
         }
     }
 }

@@ -1,10 +1,10 @@
 //! A link over a UDP socket.
-ghost use Rattle.std.specs.Prelude.{◌≡◌, ◌≢◌, ◌↔◌, ◌≤◌, ◌++◌, ◌∷◌, [], IsTrue, List, length, map, Option, Result, Some, None, OnOk, OnErr, false, refl, true};
+ghost use Rattle.std.specs.Prelude.{◌≡◌, ◌≢◌, ◌↔◌, ◌≤◌, ◌++◌, ◌∷◌, [], List, length, map, Option, Result, Some, None, OnOk, OnErr, false, refl, true};
 ghost use Rattle.std.specs.declared.io.Error.{Error};
 ghost use Rattle.std.specs.declared.net.socket_addr.SocketAddr.{SocketAddr};
 ghost use Rattle.chaos_packet.specs.Count.{Rose, with_failure};
 ghost use Rattle.chaos_link.specs.Gone.{sent_after};
-ghost use Rattle.chaos_link.specs.Heard.{Answered, HearsAfter, Takes, received_after, source_of};
+ghost use Rattle.chaos_link.specs.Heard.{Answered, HearsAfter};
 ghost use Rattle.chaos_link.specs.Link.{Asks, IsWithin, Receive, Send};
 ghost use Rattle.chaos_link.specs.Peers.{socket_of};
 ghost use Rattle.chaos_link.specs.SocketFault.{fault_so_far};
@@ -17,7 +17,6 @@ use crate::peers::Peers;
 use crate::report::{LinkReport, Reports};
 use crate::socket::DatagramSocket;
 use crate::socket_fault::{SocketCall, SocketFault, fault_after};
-use std::io;
 use std::marker::Model;
 use std::net::{SocketAddr, SocketAddrV4, UdpSocket};
 use std::time::Duration;
@@ -80,7 +79,7 @@ impl<S> UdpLink<S> {
             failures: 0,
             waits: None,
             is_closed: false,
-            report: LinkReport::of_source(None),
+            report: LinkReport::new(),
         }
     }
 
@@ -152,15 +151,20 @@ impl<S: DatagramSocket> Link for UdpLink<S> {
         let Some(peer) = self.peers.find(to_address) else {
             return Sent::Unknown;
         };
-        let sent = send_to(&mut self.socket, bytes, peer, &mut self.report.fault);
-        if sent == Sent::Failed {
+        let Err(error) = self.socket.send_datagram(bytes, peer) else {
+            return Sent::Sent;
+        };
+        self.report.fault = fault_after(SocketCall::Send(peer), error, self.report.fault);
+        if is_gone(&error) {
             count_failure(&mut self.failures);
+            return Sent::Failed;
         }
-        sent
+        Sent::Sent
     }
 
-    /// Receives a datagram, from whomever the link hears. A datagram of more than 2,048 bytes is cut to its first
-    /// 2,048. These are too many for any packet, so that they are refused as a datagram.
+    /// Receives a datagram, from whomever the link hears. A datagram of more than 2,048 bytes is cut
+    /// to its first 2,048. These are too many for any packet, so that they are refused as a
+    /// datagram.
     fn receive(&mut self, buffer: &mut [u8; LINK_ROOM], may_wait: bool) -> Received
         // A receive is answered Failed only where the link's count rose; otherwise the count stays.
         // No more bytes come than the buffer has, and the link is no queue.
@@ -193,15 +197,29 @@ impl<S: DatagramSocket> Link for UdpLink<S> {
             × Answered S.answered S.came self.new.socket heard
             × HearsAfter self.old.closed self.old.peers heard result self.new.report }
     {
-        let (received, report) = match set_wait(&mut self.socket, &mut self.waits, may_wait) {
-            Ok(()) => receive_from(&mut self.socket, buffer, &self.peers, self.is_closed),
-            Err(fault) => (Received::Failed, LinkReport::of_fault(Some(fault))),
-        };
-        self.report = report;
-        if received == Received::Failed {
+        self.report = LinkReport::new();
+        if let Err(fault) = set_wait(&mut self.socket, &mut self.waits, may_wait) {
+            self.report.fault = Some(fault);
             count_failure(&mut self.failures);
+            return Received::Failed;
         }
-        received
+        match self.socket.receive_datagram(buffer) {
+            Ok((count, SocketAddr::V4(from))) if !self.is_closed || self.peers.has_socket(from) => {
+                self.report.source = Some(from);
+                Received::Got(count)
+            }
+            // No peer and no bridge has such an address.
+            Ok((count, SocketAddr::V6(_))) if !self.is_closed => Received::Got(count),
+            Ok(_) => Received::Nothing,
+            Err(error) => {
+                self.report.fault = fault_after(SocketCall::Receive, error, None);
+                if is_gone(&error) {
+                    count_failure(&mut self.failures);
+                    return Received::Failed;
+                }
+                Received::Nothing
+            }
+        }
     }
 
     fn failures(&self) -> u64 {
@@ -214,90 +232,6 @@ fn count_failure(failures: &mut u64)
     ensures { failures.new ≡ with_failure failures.old }
 {
     *failures = failures.saturating_add(1);
-}
-
-/// Sends a datagram, which is lost where the system doesn't send it.
-fn send_to<S: DatagramSocket>(
-    socket: &mut S,
-    bytes: &[u8],
-    peer: SocketAddrV4,
-    fault: &mut Option<SocketFault>,
-) -> Sent
-    ensures asked { Asks (S.asked socket.old) (S.asked socket.new)
-        (SendTo (record { to = peer; bytes = bytes.now }) ∷ []) }
-    ensures answered { (error : Option Error) × S.answered socket.new error
-        × (result ≡ sent_after error)
-        × (fault.new ≡ fault_so_far (SocketCall.Send peer) error fault.old) }
-{
-    match socket.send_datagram(bytes, peer) {
-        Ok(()) => Sent::Sent,
-        Err(error) => {
-            *fault = fault_after(SocketCall::Send(peer), error, *fault);
-            if is_gone(&error) {
-                Sent::Failed
-            } else {
-                Sent::Sent
-            }
-        }
-    }
-}
-
-/// Receives a datagram, or nothing where none came in time, where the system couldn't hand it over,
-/// or where a closed link doesn't hear from where it came. Reports what is known of it.
-fn receive_from<S: DatagramSocket>(
-    socket: &mut S,
-    buffer: &mut [u8; LINK_ROOM],
-    peers: &Peers,
-    is_closed: bool,
-) -> (Received, LinkReport)
-    ensures within { IsWithin LINK_ROOM result.0 }
-    ensures asked { Asks (S.asked socket.old) (S.asked socket.new) (ReceiveOne ∷ []) }
-    ensures answered { (heard : Result SocketAddr Error)
-        × Answered S.answered S.came socket.new heard
-        × HearsAfter is_closed peers.now heard result.0 result.1 }
-{
-    match socket.receive_datagram(buffer) {
-        Ok((count, from)) if takes(is_closed, peers, from) => {
-            (Received::Got(count), LinkReport::of_source(source_of(from)))
-        }
-        Ok(_) => (Received::Nothing, LinkReport::of_source(None)),
-        Err(error) => {
-            let fault = fault_after(SocketCall::Receive, error, None);
-            (received_after(&error), LinkReport::of_fault(fault))
-        }
-    }
-}
-
-/// What a link answers to a receive after this error of its socket.
-fn received_after(error: &io::Error) -> Received
-    ensures { result ≡ received_after error.now }
-{
-    if is_gone(error) {
-        Received::Failed
-    } else {
-        Received::Nothing
-    }
-}
-
-/// Whether a link takes what comes from there.
-fn takes(is_closed: bool, peers: &Peers, from: SocketAddr) -> bool
-    ensures { IsTrue result ↔ Takes is_closed peers.now from }
-{
-    match (is_closed, from) {
-        (false, _) => true,
-        (true, SocketAddr::V4(from)) => peers.has_socket(from),
-        (true, SocketAddr::V6(_)) => false,
-    }
-}
-
-/// The UDP address, of IPv4.
-fn source_of(from: SocketAddr) -> Option<SocketAddrV4>
-    ensures { result ≡ source_of from }
-{
-    match from {
-        SocketAddr::V4(from) => Some(from),
-        SocketAddr::V6(_) => None,
-    }
 }
 
 /// Sets whether the socket's receives wait, where `set` says that they do otherwise.
