@@ -76,32 +76,9 @@ pub(crate) fn packet_of(words: &[u8], count: usize) -> Packet
     packet
 }
 
-/// The same into a place of the caller's, whatever packet stands there. What is longer than the
-/// data of both stays as it is. So a packet that is read over others again and again costs its data
-/// and no more.
-#[inline(always)]
-pub(crate) fn read_over(words: &[u8], count: usize, packet: &mut Packet)
-    requires long { datagram_len count ≤ MARK_BYTES + length words.now }
-    requires count { count ≡ count_of (words_of words.now) }
-    requires small { count ≤ MAX_DATA }
-    ensures { packet.new ≡ packet_at (words_of words.now) }
-{
-    let (_, data) = words.split_at(2 * HEADER_WORDS);
-    let (data, _) = data.split_at(2 * ((count + 1) / 2));
-    packet.op = Opcode((word_at(words, 0) / 256) as u8);
-    packet.fwd = (word_at(words, 1) / 4096) as u8;
-    packet.dst = word_at(words, 2);
-    packet.dst_index = word_at(words, 3);
-    packet.src = word_at(words, 4);
-    packet.src_index = word_at(words, 5);
-    packet.num = PktNum(word_at(words, 6));
-    packet.ack = PktNum(word_at(words, 7));
-    turn_over(data, count, &mut packet.body);
-}
-
 /// Puts so many bytes in place of a body: those of the words, each turned round.
 #[inline(always)]
-fn turn_over(from: &[u8], count: usize, body: &mut ArrayVec<u8, MAX_DATA>)
+pub(crate) fn turn_over(from: &[u8], count: usize, body: &mut ArrayVec<u8, MAX_DATA>)
     requires fits { length from.now ≤ MAX_DATA }
     requires count { count ≤ 2 * (length from.now / 2) }
     ensures { body.new.items ≡ take count (halves (words_of from.now)) }

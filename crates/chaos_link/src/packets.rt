@@ -5,11 +5,11 @@ ghost use Rattle.chaos_packet.specs.Words.{count_of, packet_at};
 ghost use Rattle.chaos_link.specs.Datagram.{datagram_len, words_of};
 ghost use Rattle.chaos_link.specs.Packets.{AtMostOneList, CarriesAll, IsDecidedByCarriesAll, packets_len, packets_fault, fault_of_all, fault_of_two, is_two, number_of, packets_at, packets_read};
 
-use crate::datagram::{MARK, checked_count, data_count, packet_of, read_over, word_at};
+use crate::datagram::{MARK, checked_count, data_count, packet_of, turn_over, word_at};
 use crate::fault::LinkFault;
 use crate::limits::{MARK_BYTES, MAX_BUNDLE, MAX_PACKETS};
 use arrayvec::ArrayVec;
-use chaos_packet::{HEADER_WORDS, MAX_DATA, Packet};
+use chaos_packet::{HEADER_WORDS, MAX_DATA, Opcode, Packet, PktNum};
 use std::marker::Model;
 
 /// The third byte of a datagram that carries several packets.
@@ -74,7 +74,17 @@ impl<'a> Packets<'a> {
         let Some((words, count)) = self.step() else {
             return false;
         };
-        read_over(words, count, packet);
+        let (_, data) = words.split_at(2 * HEADER_WORDS);
+        let (data, _) = data.split_at(2 * ((count + 1) / 2));
+        packet.op = Opcode((word_at(words, 0) / 256) as u8);
+        packet.fwd = (word_at(words, 1) / 4096) as u8;
+        packet.dst = word_at(words, 2);
+        packet.dst_index = word_at(words, 3);
+        packet.src = word_at(words, 4);
+        packet.src_index = word_at(words, 5);
+        packet.num = PktNum(word_at(words, 6));
+        packet.ack = PktNum(word_at(words, 7));
+        turn_over(data, count, &mut packet.body);
         true
     }
 
