@@ -1,5 +1,5 @@
 //! Where the lines of a log are written.
-use crate::ledger::{Asking, Ledger};
+use crate::ledger::Ledger;
 use crate::level::{Level, Matter};
 use crate::limiter::Limiter;
 use crate::warning::{Named, Warning, bridge_warning_of, warning_of};
@@ -25,8 +25,8 @@ pub struct Journal<'a, R> {
     rt: &'a R,
     level: Level,
     is_timed: bool,
-    ledger: Ledger,
-    limiter: Limiter,
+    pub(crate) ledger: Ledger,
+    pub(crate) limiter: Limiter,
     /// The second of the clock that was read last.
     second: u64,
     /// Whether the log has a line that the clock can't be read.
@@ -58,7 +58,7 @@ impl<'a, R: Clock + Eprint> Journal<'a, R> {
     }
 
     /// The second of the clock; where the clock can't be read, the second that was read last.
-    fn second(&mut self) -> u64 {
+    pub(crate) fn second(&mut self) -> u64 {
         match self.rt.monotonic() {
             Ok(now) => self.second = now.as_secs(),
             Err(fault) => self.miss_clock(&fault),
@@ -100,7 +100,7 @@ impl<'a, R: Clock + Eprint> Journal<'a, R> {
     }
 
     /// Reports how many lines about this matter were left out in a second that is over.
-    fn report_due(&mut self, matter: Matter, now: u64) {
+    pub(crate) fn report_due(&mut self, matter: Matter, now: u64) {
         if self.limiter.is_due(matter, now) {
             self.report(matter);
         }
@@ -136,27 +136,6 @@ impl<'a, R: Clock + Eprint> Journal<'a, R> {
         }
     }
 
-    /// A datagram of this host came from this UDP address. What is wrong with that is logged once.
-    /// If the line was left out, the next datagram from there is logged in its place.
-    pub fn hear(&mut self, address: u16, from: SocketAddrV4) {
-        let is_logged = match self.ledger.hear(address, from) {
-            Asking::AsKnown => true,
-            Asking::Stranger => self.log(
-                Matter::Stranger,
-                &format_args!("host {address:06o} asks from {from} and is no PEER"),
-            ),
-            Asking::Elsewhere(known) => self.log(
-                Matter::Stranger,
-                &format_args!(
-                    "host {address:06o} asks from {from}, and is answered at {known}, where its PEER is"
-                ),
-            ),
-        };
-        if !is_logged {
-            self.ledger.forget_told(address);
-        }
-    }
-
     /// Whether this host is answered: a peer has this Chaosnet address, or there is a bridge.
     pub(crate) fn is_peer(&self, address: u16) -> bool {
         self.ledger.peers().find(address).is_some()
@@ -168,17 +147,6 @@ impl<'a, R: Clock + Eprint> Journal<'a, R> {
             Some(from) => self.log(matter, &format_args!("host {host:06o} at {from} {line}")),
             None => self.log(matter, &format_args!("host {host:06o} {line}")),
         };
-    }
-
-    /// The turn is over: what was left out in a second that is over is reported.
-    pub fn end_turn(&mut self) {
-        if !self.limiter.has_left_out() {
-            return;
-        }
-        let now = self.second();
-        for matter in &Matter::EACH {
-            self.report_due(*matter, now);
-        }
     }
 
     /// The run is over, as this line says, and what was left out is reported. The line itself is

@@ -3,6 +3,7 @@ ghost use Rattle.std.specs.Prelude.{None};
 
 use crate::change::{Asked, ChangeText, Printed, matter_of};
 use crate::journal::Journal;
+use crate::ledger::Asking;
 use crate::level::Matter;
 use chaos_conn::End;
 use chaos_file::{Cause, Change};
@@ -75,16 +76,41 @@ impl<R: Clock + Eprint> Log for Journal<'_, R> {
 impl<R: Clock + Eprint, L: Reports> LinkLog<L> for Journal<'_, R> {
     ghost reads = { L.reported };
 
+    /// What is wrong with where the host asks from is logged once. If the line was left out, the
+    /// next datagram from there is logged in its place.
     fn heard(&mut self, link: &L, address: u16) {
-        if let Some(from) = link.report().source {
-            self.hear(address, from);
+        let Some(from) = link.report().source else {
+            return;
+        };
+        let is_logged = match self.ledger.hear(address, from) {
+            Asking::AsKnown => true,
+            Asking::Stranger => self.log(
+                Matter::Stranger,
+                &format_args!("host {address:06o} asks from {from} and is no PEER"),
+            ),
+            Asking::Elsewhere(known) => self.log(
+                Matter::Stranger,
+                &format_args!(
+                    "host {address:06o} asks from {from}, and is answered at {known}, where its PEER is"
+                ),
+            ),
+        };
+        if !is_logged {
+            self.ledger.forget_told(address);
         }
     }
 
+    /// What was left out in a second that is over is reported too.
     fn turned(&mut self, link: &L) {
         if let Some(fault) = link.report().fault {
             let _ = self.log(Matter::Socket, &fault);
         }
-        self.end_turn();
+        if !self.limiter.has_left_out() {
+            return;
+        }
+        let now = self.second();
+        for matter in &Matter::EACH {
+            self.report_due(*matter, now);
+        }
     }
 }
