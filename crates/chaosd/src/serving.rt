@@ -12,7 +12,7 @@ use chaos_link::{Link, Peers, Reports, UdpLink};
 use chaos_node::ClockMoments;
 use chaosd_io::RunFault;
 use chaosd_line::{Framing, LogLevel, Serve};
-use chaosd_log::{Journal, Ledger, Level, Matter};
+use chaosd_log::{Journal, Level, PeerSources, Topic};
 use file_server::{ServeOptions, run_serve_by};
 use file_transfer::ExitStatus;
 use std::fs::{File, Files};
@@ -67,8 +67,8 @@ fn serve<R: AllocGlobal + Clock + Eprint, L: Link + Reports, S: Store>(
     let turns = options.turns;
     let end = make_turns(rt, options, journal, link, store);
     match &end {
-        Ok(()) => journal.end(Matter::Service, &format_args!("{turns} turns are over")),
-        Err(fault) => journal.end(Matter::Fault, fault),
+        Ok(()) => journal.end(Topic::Service, &format_args!("{turns} turns are over")),
+        Err(fault) => journal.end(Topic::Fault, fault),
     }
     ExitStatus::of_run(end.map(|()| true))
 }
@@ -133,7 +133,7 @@ fn serve_folder<R: AllocGlobal + Clock + Eprint + Files<File = File> + Net>(
     };
     let options = options_of(&line);
     let level = level_of(line.is_quiet, line.log);
-    let mut journal = Journal::new(rt, level, line.is_timed, Ledger::new(peers));
+    let mut journal = Journal::new(rt, level, line.is_timed, PeerSources::new(peers));
     journal.begin(line.address, line.socket, line.folder, &line.peers);
     match line.framing {
         Framing::Own(_) => {

@@ -5,12 +5,12 @@ use Rattle.chaos_file.specs.declared.change.Change.TheVariants.{Read, Refused}
 use Rattle.chaos_file.specs.declared.error.FileError.TheVariants.{StoreFault}
 use Rattle.chaos_file.specs.declared.store.Cause.{Cause}
 use Rattle.chaos_file.specs.declared.store.Cause.TheVariants.{System}
-use Rattle.chaosd_log.specs.declared.level.Matter.{Matter}
-use Rattle.chaosd_log.specs.declared.level.Matter.TheVariants as matter
+use Rattle.chaosd_log.specs.declared.level.Topic.{Topic}
+use Rattle.chaosd_log.specs.declared.level.Topic.TheVariants as topic
 
 -- a file that was read; a fault of the system; a command that was refused; or a change
-abbrev pub matter_of : Change → Option Cause → Matter
-matter_of (Read path bytes) cause = matter.Read
-matter_of (Refused attempt StoreFault) (Some (System fault)) = matter.Fault
-matter_of (Refused attempt error) cause = matter.Refusal
-matter_of change cause = matter.Change
+abbrev pub topic_of : Change → Option Cause → Topic
+topic_of (Read path bytes) cause = topic.Read
+topic_of (Refused attempt StoreFault) (Some (System fault)) = topic.Fault
+topic_of (Refused attempt error) cause = topic.Refusal
+topic_of change cause = topic.Change

@@ -1,5 +1,5 @@
 pub mod Level
 pub mod Limiter
-pub mod Ledger
+pub mod PeerSources
 pub mod Change
 pub mod Warning

@@ -1,18 +1,18 @@
--- How many lines about each matter a log writes in a second, and how many lines the log leaves out.
+-- How many lines about each topic a log writes in a second, and how many lines the log leaves out.
 use Rattle.std.specs.Prelude.{ℕ, ◌&&◌, nat_lt, Bool, true, false, if◌then◌else◌, List, Option, Some, None, slice_index_or, slice_set}
 use Rattle.chaos_packet.specs.Count.{with_failure as one_more}
-use Rattle.chaosd_log.specs.declared.level.Matter.{Matter}
-use Rattle.chaosd_log.specs.declared.level.Matter.TheVariants.{Change, Read}
+use Rattle.chaosd_log.specs.declared.level.Topic.{Topic}
+use Rattle.chaosd_log.specs.declared.level.Topic.TheVariants.{Change, Read}
 use Rattle.chaosd_log.specs.declared.limiter.Tally.{Tally}
-use Rattle.chaosd_log.specs.Level.{place_of_matter}
+use Rattle.chaosd_log.specs.Level.{place_of_topic}
 
--- the most lines about a matter in a second; lines about changes have no limit
-abbrev pub limit_of : Matter → Option ℕ
+-- the most lines about a topic in a second; lines about changes have no limit
+abbrev pub limit_of : Topic → Option ℕ
 limit_of Change = None
 limit_of Read = Some 200
-limit_of matter = Some 20
+limit_of topic = Some 20
 
--- ---- the lines about one matter
+-- ---- the lines about one topic
 
 -- no line came
 abbrev pub no_lines : Tally
@@ -44,10 +44,10 @@ is_due now tally = nat_lt 0 tally.left_out && nat_lt tally.second now
 abbrev pub with_report : Tally → Tally
 with_report tally = record tally { left_out = 0 }
 
--- ---- the lines about all matters
+-- ---- the lines about all topics
 
-abbrev pub tally_of : Matter → List Tally → Tally
-tally_of matter tallies = slice_index_or tallies (place_of_matter matter) no_lines
+abbrev pub tally_of : Topic → List Tally → Tally
+tally_of topic tallies = slice_index_or tallies (place_of_topic topic) no_lines
 
-abbrev pub with_tally : Matter → Tally → List Tally → List Tally
-with_tally matter tally tallies = slice_set tallies (place_of_matter matter) tally
+abbrev pub with_tally : Topic → Tally → List Tally → List Tally
+with_tally topic tally tallies = slice_set tallies (place_of_topic topic) tally

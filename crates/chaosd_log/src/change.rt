@@ -1,8 +1,8 @@
 //! Lines about what a command changed.
 ghost use Rattle.std.specs.Prelude.{◌≡◌};
-ghost use Rattle.chaosd_log.specs.Change.{matter_of};
+ghost use Rattle.chaosd_log.specs.Change.{topic_of};
 
-use crate::level::Matter;
+use crate::level::Topic;
 use chaos_file::{Attempt, Cause, Change, FileError};
 use std::fmt;
 use std::fmt::{Display, Formatter};
@@ -100,15 +100,15 @@ impl Display for ChangeText<'_> {
 }
 
 /// What a line about a change is about.
-pub fn matter_of(change: &Change, cause: Option<Cause<'_>>) -> Matter
-    // A file that was read is one matter, a command that was refused another, a command that failed
-    // since the system refused something a fault, and a change a fourth matter.
-    ensures { result ≡ matter_of change.now cause.entry }
+pub fn topic_of(change: &Change, cause: Option<Cause<'_>>) -> Topic
+    // A file that was read is one topic, a command that was refused another, a command that failed
+    // since the system refused something a fault, and a change a fourth topic.
+    ensures { result ≡ topic_of change.now cause.entry }
 {
     match (change, cause) {
-        (Change::Read(..), _) => Matter::Read,
-        (Change::Refused(_, FileError::StoreFault), Some(Cause::System(_))) => Matter::Fault,
-        (Change::Refused(..), _) => Matter::Refusal,
-        _ => Matter::Change,
+        (Change::Read(..), _) => Topic::Read,
+        (Change::Refused(_, FileError::StoreFault), Some(Cause::System(_))) => Topic::Fault,
+        (Change::Refused(..), _) => Topic::Refusal,
+        _ => Topic::Change,
     }
 }

@@ -1,7 +1,7 @@
 //! Where the lines of a log are written.
-use crate::ledger::Ledger;
-use crate::level::{Level, Matter};
+use crate::level::{Level, Topic};
 use crate::limiter::Limiter;
+use crate::peer_sources::PeerSources;
 use crate::warning::{Named, Warning, bridge_warning_of, warning_of};
 use chaos_file::PrintedName;
 use chaos_link::Peers;
@@ -15,8 +15,8 @@ use std::time::Clock;
 /// UTC, as RFC 3339 has it. A line that can't be written is dropped.
 ///
 /// A [`Limiter`] says which lines are left out, so that nobody fills a disk by requests. The number
-/// of lines that were left out about a matter is reported in a later second, with the first line
-/// about the matter or at the end of a turn, or at the end of the run. Where the clock can't be
+/// of lines that were left out about a topic is reported in a later second, with the first line
+/// about the topic or at the end of a turn, or at the end of the run. Where the clock can't be
 /// read, all lines count as lines of the last second that was read; the first such fault is logged.
 ///
 /// What is written to standard error no clause can say, so a clause knows nothing of a journal.
@@ -25,7 +25,7 @@ pub struct Journal<'a, R> {
     rt: &'a R,
     level: Level,
     is_timed: bool,
-    pub(crate) ledger: Ledger,
+    pub(crate) sources: PeerSources,
     pub(crate) limiter: Limiter,
     /// The second of the clock that was read last.
     second: u64,
@@ -35,12 +35,12 @@ pub struct Journal<'a, R> {
 
 impl<'a, R: Clock + Eprint> Journal<'a, R> {
     /// A log of this level, of a server that has heard nobody.
-    pub fn new(rt: &'a R, level: Level, is_timed: bool, ledger: Ledger) -> Self {
+    pub fn new(rt: &'a R, level: Level, is_timed: bool, sources: PeerSources) -> Self {
         Journal {
             rt,
             level,
             is_timed,
-            ledger,
+            sources,
             limiter: Limiter::new(),
             second: 0,
             is_clock_missed: false,
@@ -78,31 +78,31 @@ impl<'a, R: Clock + Eprint> Journal<'a, R> {
 
     /// Logs a line, where the level has such lines and the limit of the second has room. Says
     /// whether the line was written.
-    pub fn log<D: Display>(&mut self, matter: Matter, line: &D) -> bool {
-        if !self.level.is_told(matter) {
+    pub fn log<D: Display>(&mut self, topic: Topic, line: &D) -> bool {
+        if !self.level.has(topic) {
             return false;
         }
         let now = self.second();
-        self.report_due(matter, now);
-        let is_written = self.limiter.take_line(matter, now);
+        self.report_due(topic, now);
+        let is_written = self.limiter.take_line(topic, now);
         if is_written {
             self.write(line);
         }
         is_written
     }
 
-    /// Reports how many lines about this matter were left out, where any was.
-    fn report(&mut self, matter: Matter) {
-        let count = self.limiter.take_left_out(matter);
+    /// Reports how many lines about this topic were left out, where any was.
+    fn report(&mut self, topic: Topic) {
+        let count = self.limiter.take_left_out(topic);
         if count > 0 {
-            self.write(&format_args!("{count} more like this, about {matter}"));
+            self.write(&format_args!("{count} more like this, about {topic}"));
         }
     }
 
-    /// Reports how many lines about this matter were left out in a second that is over.
-    pub(crate) fn report_due(&mut self, matter: Matter, now: u64) {
-        if self.limiter.is_due(matter, now) {
-            self.report(matter);
+    /// Reports how many lines about this topic were left out in a second that is over.
+    pub(crate) fn report_due(&mut self, topic: Topic, now: u64) {
+        if self.limiter.is_due(topic, now) {
+            self.report(topic);
         }
     }
 
@@ -118,11 +118,11 @@ impl<'a, R: Clock + Eprint> Journal<'a, R> {
         let named = Named(peers);
         let folder = PrintedName(folder);
         let _ = self.log(
-            Matter::Service,
+            Topic::Service,
             &format_args!("host {address:06o} serves {folder} at {socket}{named}"),
         );
         if peers.hosts().is_empty() && peers.bridge().is_none() {
-            let _ = self.log(Matter::Fault, &Warning::NoPeers);
+            let _ = self.log(Topic::Fault, &Warning::NoPeers);
         }
         for peer in peers.hosts() {
             self.warn(warning_of(peer, address, socket));
@@ -132,30 +132,30 @@ impl<'a, R: Clock + Eprint> Journal<'a, R> {
 
     fn warn(&mut self, warning: Option<Warning>) {
         if let Some(warning) = warning {
-            let _ = self.log(Matter::Fault, &warning);
+            let _ = self.log(Topic::Fault, &warning);
         }
     }
 
     /// Whether this host is answered: a peer has this Chaosnet address, or there is a bridge.
     pub(crate) fn is_peer(&self, address: u16) -> bool {
-        self.ledger.peers().find(address).is_some()
+        self.sources.peers().find(address).is_some()
     }
 
     /// Logs a line about this host, with the UDP address where it was heard last.
-    pub(crate) fn log_of<D: Display>(&mut self, host: u16, matter: Matter, line: &D) {
-        let _ = match self.ledger.source_of(host) {
-            Some(from) => self.log(matter, &format_args!("host {host:06o} at {from} {line}")),
-            None => self.log(matter, &format_args!("host {host:06o} {line}")),
+    pub(crate) fn log_of<D: Display>(&mut self, host: u16, topic: Topic, line: &D) {
+        let _ = match self.sources.source_of(host) {
+            Some(from) => self.log(topic, &format_args!("host {host:06o} at {from} {line}")),
+            None => self.log(topic, &format_args!("host {host:06o} {line}")),
         };
     }
 
     /// The run is over, as this line says, and what was left out is reported. The line itself is
     /// never left out where the level has such lines.
-    pub fn end<D: Display>(&mut self, matter: Matter, line: &D) {
-        for matter in &Matter::EACH {
-            self.report(*matter);
+    pub fn end<D: Display>(&mut self, topic: Topic, line: &D) {
+        for topic in &Topic::EACH {
+            self.report(*topic);
         }
-        if self.level.is_told(matter) {
+        if self.level.has(topic) {
             self.write(line);
         }
     }

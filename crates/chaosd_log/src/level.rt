@@ -1,7 +1,7 @@
 //! What a line of a log is about, and which lines a log has.
 ghost use Rattle.std.specs.Prelude.{◌≡◌, ◌<◌};
-ghost use Rattle.chaosd_log.specs.declared.level.TheConstants.{MATTERS};
-ghost use Rattle.chaosd_log.specs.Level.{is_told_at, place_of_matter};
+ghost use Rattle.chaosd_log.specs.declared.level.TheConstants.{TOPICS};
+ghost use Rattle.chaosd_log.specs.Level.{has_topic, place_of_topic};
 
 use std::fmt;
 use std::fmt::{Display, Formatter};
@@ -19,7 +19,7 @@ pub enum Level {
 
 /// What a line of a log is about.
 #[derive(Clone, Copy, Debug, PartialEq, Eq)]
-pub enum Matter {
+pub enum Topic {
     /// A mistake of who set the server up, or what the system refused.
     Fault,
     /// A send or a receive that failed.
@@ -38,69 +38,69 @@ pub enum Matter {
     Read,
 }
 
-/// How many matters there are.
-pub const MATTERS: usize = 8;
+/// How many topics there are.
+pub const TOPICS: usize = 8;
 
-impl Matter {
-    /// Each matter, in the order of their places.
-    pub const EACH: [Matter; MATTERS] = [
-        Matter::Fault,
-        Matter::Socket,
-        Matter::Stranger,
-        Matter::Service,
-        Matter::Connection,
-        Matter::Change,
-        Matter::Refusal,
-        Matter::Read,
+impl Topic {
+    /// Each topic, in the order of their places.
+    pub const EACH: [Topic; TOPICS] = [
+        Topic::Fault,
+        Topic::Socket,
+        Topic::Stranger,
+        Topic::Service,
+        Topic::Connection,
+        Topic::Change,
+        Topic::Refusal,
+        Topic::Read,
     ];
 
-    /// The place of the matter in a table of all matters.
+    /// The place of the topic in a table of all topics.
     pub fn place(self) -> usize
-        // Each matter has its place in a table of eight.
-        ensures place { result ≡ place_of_matter self }
-        ensures bound { result < MATTERS }
+        // Each topic has its place in a table of eight.
+        ensures place { result ≡ place_of_topic self }
+        ensures bound { result < TOPICS }
     {
         match self {
-            Matter::Fault => 0,
-            Matter::Socket => 1,
-            Matter::Stranger => 2,
-            Matter::Service => 3,
-            Matter::Connection => 4,
-            Matter::Change => 5,
-            Matter::Refusal => 6,
-            Matter::Read => 7,
+            Topic::Fault => 0,
+            Topic::Socket => 1,
+            Topic::Stranger => 2,
+            Topic::Service => 3,
+            Topic::Connection => 4,
+            Topic::Change => 5,
+            Topic::Refusal => 6,
+            Topic::Read => 7,
         }
     }
 }
 
 /// What the lines are about, as a report of lines that were left out has it.
-impl Display for Matter {
+impl Display for Topic {
     fn fmt<W: fmt::Write>(&self, f: &mut Formatter<W>) -> fmt::Result {
         let words = match self {
-            Matter::Fault => "faults",
-            Matter::Socket => "the socket",
-            Matter::Stranger => "unknown hosts",
-            Matter::Service => "the server",
-            Matter::Connection => "connections",
-            Matter::Change => "changed files",
-            Matter::Refusal => "failed requests",
-            Matter::Read => "files that were read",
+            Topic::Fault => "faults",
+            Topic::Socket => "the socket",
+            Topic::Stranger => "unknown hosts",
+            Topic::Service => "the server",
+            Topic::Connection => "connections",
+            Topic::Change => "changed files",
+            Topic::Refusal => "failed requests",
+            Topic::Read => "files that were read",
         };
         f.write_str(words)
     }
 }
 
 impl Level {
-    /// Whether a log of this level has lines about the matter.
-    pub fn is_told(self, matter: Matter) -> bool
+    /// Whether a log of this level has lines about the topic.
+    pub fn has(self, topic: Topic) -> bool
         // Each level logs faults, errors of a socket and unknown hosts. `All` alone logs files that
         // are read. Each level but `Quiet` logs the rest.
-        ensures { result ≡ is_told_at self matter }
+        ensures { result ≡ has_topic self topic }
     {
-        match (self, matter) {
-            (_, Matter::Fault | Matter::Socket | Matter::Stranger) => true,
+        match (self, topic) {
+            (_, Topic::Fault | Topic::Socket | Topic::Stranger) => true,
             (Level::Quiet, _) => false,
-            (Level::Normal, Matter::Read) => false,
+            (Level::Normal, Topic::Read) => false,
             _ => true,
         }
     }

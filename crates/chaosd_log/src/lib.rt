@@ -3,21 +3,21 @@
 //! refused.
 //!
 //! It opens nothing. A server reports to a [`Journal`], which writes lines. What is known of hosts is
-//! kept by a [`Ledger`], which is plain data.
+//! kept by a [`PeerSources`], which is plain data.
 #![tactic(auto)]
 
 mod change;
 mod journal;
-mod ledger;
 mod level;
 mod limiter;
+mod peer_sources;
 mod place;
 mod server_log;
 mod warning;
 
-pub use change::{ChangeText, matter_of};
+pub use change::{ChangeText, topic_of};
 pub use journal::Journal;
-pub use ledger::{Asking, Ledger};
-pub use level::{Level, MATTERS, Matter};
+pub use level::{Level, TOPICS, Topic};
 pub use limiter::{Limiter, Tally};
+pub use peer_sources::{PeerSources, SourceReport};
 pub use warning::{Warning, bridge_warning_of, warning_of};

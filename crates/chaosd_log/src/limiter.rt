@@ -1,12 +1,12 @@
-//! How many lines about each matter a log writes in a second.
+//! How many lines about each topic a log writes in a second.
 ghost use Rattle.std.specs.Prelude.{◌≡◌, ◌<◌};
-ghost use Rattle.chaosd_log.specs.declared.level.TheConstants.{MATTERS};
+ghost use Rattle.chaosd_log.specs.declared.level.TheConstants.{TOPICS};
 ghost use Rattle.chaosd_log.specs.Limiter.{has_room, in_second, is_below, is_due, limit_of, no_lines, tally_of, with_line, with_report, with_tally};
 
-use crate::level::{MATTERS, Matter};
+use crate::level::{TOPICS, Topic};
 use std::marker::Model;
 
-/// The lines about one matter: those that were written in a second of the clock, and those that
+/// The lines about one topic: those that were written in a second of the clock, and those that
 /// were left out and not reported yet.
 #[derive(Clone, Copy)]
 pub struct Tally {
@@ -18,14 +18,14 @@ pub struct Tally {
     left_out: u64,
 }
 
-/// The most lines about a matter in a second. `None` is no limit: a line about a change is never
+/// The most lines about a topic in a second. `None` is no limit: a line about a change is never
 /// left out.
-fn limit_of(matter: Matter) -> Option<u64>
-    ensures { result ≡ limit_of matter }
+fn limit_of(topic: Topic) -> Option<u64>
+    ensures { result ≡ limit_of topic }
 {
-    match matter {
-        Matter::Change => None,
-        Matter::Read => Some(200),
+    match topic {
+        Topic::Change => None,
+        Topic::Read => Some(200),
         _ => Some(20),
     }
 }
@@ -82,11 +82,11 @@ impl Tally {
     }
 }
 
-/// How many lines about each matter were written in a second of the clock, and how many were left
-/// out. A contract sees the tallies of all matters, in the order of their places.
+/// How many lines about each topic were written in a second of the clock, and how many were left
+/// out. A contract sees the tallies of all topics, in the order of their places.
 #[derive(Drop)]
 pub struct Limiter {
-    tallies: [Tally; MATTERS],
+    tallies: [Tally; TOPICS],
 }
 
 impl Model for Limiter {
@@ -105,56 +105,56 @@ impl Limiter {
     /// The limiter of a log that has written no line.
     pub fn new() -> Self
         // A new limiter has counted no line.
-        ensures { result ≡ replicate MATTERS no_lines }
+        ensures { result ≡ replicate TOPICS no_lines }
     {
         Limiter {
-            tallies: [Tally::NONE; MATTERS],
+            tallies: [Tally::NONE; TOPICS],
         }
     }
 
-    /// A line about this matter comes in this second of the clock. Says whether the line is to be
+    /// A line about this topic comes in this second of the clock. Says whether the line is to be
     /// written; otherwise the line is counted as left out.
-    pub fn take_line(&mut self, matter: Matter, now: u64) -> bool
-        // A line is to be written exactly where fewer lines about its matter than the limit were
+    pub fn take_line(&mut self, topic: Topic, now: u64) -> bool
+        // A line is to be written exactly where fewer lines about its topic than the limit were
         // written in its second. A second that isn't later than the last one counts as the last
         // one. A line about a change is always written.
-        ensures room { result ≡ has_room (limit_of matter) now (tally_of matter self.old) }
-        // The line is counted once, as written or as left out, in the tally of its matter alone.
+        ensures room { result ≡ has_room (limit_of topic) now (tally_of topic self.old) }
+        // The line is counted once, as written or as left out, in the tally of its topic alone.
         ensures tallies { self.new
-            ≡ with_tally matter (with_line (limit_of matter) now (tally_of matter self.old))
+            ≡ with_tally topic (with_line (limit_of topic) now (tally_of topic self.old))
             self.old }
     {
-        self.tallies[matter.place()].take_line(limit_of(matter), now)
+        self.tallies[topic.place()].take_line(limit_of(topic), now)
     }
 
     /// Whether any line was left out that wasn't reported yet.
     pub fn has_left_out(&self) -> bool
-        // The result is true exactly where a matter has lines that were left out and not reported.
+        // The result is true exactly where a topic has lines that were left out and not reported.
         ensures { IsTrue result ↔ Any (λ tally. 0 < tally.left_out) self.now }
     {
         self.tallies.iter().any(|tally| tally.left_out > 0)
     }
 
-    /// Whether lines about this matter were left out in a second that is over in this second.
-    pub fn is_due(&self, matter: Matter, now: u64) -> bool
-        // A report of a matter is due exactly where lines were left out that weren't reported, and
+    /// Whether lines about this topic were left out in a second that is over in this second.
+    pub fn is_due(&self, topic: Topic, now: u64) -> bool
+        // A report of a topic is due exactly where lines were left out that weren't reported, and
         // the last line came in an earlier second.
-        ensures { result ≡ is_due now (tally_of matter self.now) }
+        ensures { result ≡ is_due now (tally_of topic self.now) }
     {
-        let tally = &self.tallies[matter.place()];
+        let tally = &self.tallies[topic.place()];
         tally.left_out > 0 && tally.second < now
     }
 
-    /// How many lines about this matter were left out since the last call.
-    pub fn take_left_out(&mut self, matter: Matter) -> u64
-        // The number is that of all lines about the matter that were left out since the last
+    /// How many lines about this topic were left out since the last call.
+    pub fn take_left_out(&mut self, topic: Topic) -> u64
+        // The number is that of all lines about the topic that were left out since the last
         // report.
-        ensures count { result ≡ (tally_of matter self.old).left_out }
-        // None is left to report of that matter, and nothing else changes.
+        ensures count { result ≡ (tally_of topic self.old).left_out }
+        // None is left to report of that topic, and nothing else changes.
         ensures tallies { self.new
-            ≡ with_tally matter (with_report (tally_of matter self.old)) self.old }
+            ≡ with_tally topic (with_report (tally_of topic self.old)) self.old }
     {
-        let tally = &mut self.tallies[matter.place()];
+        let tally = &mut self.tallies[topic.place()];
         let left_out = tally.left_out;
         tally.left_out = 0;
         left_out

@@ -1,6 +1,6 @@
 //! Where a peer stands in a list.
 ghost use Rattle.std.specs.Prelude.{◌≡◌, ◌<◌, IfSome, length};
-ghost use Rattle.chaosd_log.specs.Ledger.{place_of};
+ghost use Rattle.chaosd_log.specs.PeerSources.{place_of};
 
 use chaos_link::Peer;
 

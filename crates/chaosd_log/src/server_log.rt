@@ -1,10 +1,10 @@
 //! What a journal makes of what a server reports.
 ghost use Rattle.std.specs.Prelude.{None};
 
-use crate::change::{Asked, ChangeText, Printed, matter_of};
+use crate::change::{Asked, ChangeText, Printed, topic_of};
 use crate::journal::Journal;
-use crate::ledger::Asking;
-use crate::level::Matter;
+use crate::level::Topic;
+use crate::peer_sources::SourceReport;
 use chaos_conn::End;
 use chaos_file::{Cause, Change};
 use chaos_link::Reports;
@@ -31,7 +31,7 @@ impl<R: Clock + Eprint> Log for Journal<'_, R> {
         let End { address, index } = peer;
         if self.is_peer(address) {
             let _ = self.log(
-                Matter::Connection,
+                Topic::Connection,
                 &format_args!("host {address:06o} opens connection {index:06o}"),
             );
         }
@@ -46,7 +46,7 @@ impl<R: Clock + Eprint> Log for Journal<'_, R> {
         let plural = if commands == 1 { "" } else { "s" };
         let why = words_of(ending);
         let _ = self.log(
-            Matter::Connection,
+            Topic::Connection,
             &format_args!(
                 "connection {index:06o} of host {address:06o} ends: {name}, {commands} command{plural}, {why}"
             ),
@@ -60,14 +60,14 @@ impl<R: Clock + Eprint> Log for Journal<'_, R> {
         change: &Change,
         cause: Option<Cause<'_>>,
     ) {
-        match (matter_of(change, cause), change, cause) {
-            (Matter::Fault, Change::Refused(attempt, _), Some(Cause::System(fault))) => {
+        match (topic_of(change, cause), change, cause) {
+            (Topic::Fault, Change::Refused(attempt, _), Some(Cause::System(fault))) => {
                 let _ = self.log(
-                    Matter::Fault,
+                    Topic::Fault,
                     &format_args!("can't {}: {fault}", Asked(attempt)),
                 );
             }
-            (matter, _, _) => self.log_of(peer.address, matter, &ChangeText { change, cause }),
+            (topic, _, _) => self.log_of(peer.address, topic, &ChangeText { change, cause }),
         }
     }
 }
@@ -82,35 +82,35 @@ impl<R: Clock + Eprint, L: Reports> LinkLog<L> for Journal<'_, R> {
         let Some(from) = link.report().source else {
             return;
         };
-        let is_logged = match self.ledger.hear(address, from) {
-            Asking::AsKnown => true,
-            Asking::Stranger => self.log(
-                Matter::Stranger,
+        let is_logged = match self.sources.hear(address, from) {
+            SourceReport::AsKnown => true,
+            SourceReport::Stranger => self.log(
+                Topic::Stranger,
                 &format_args!("host {address:06o} asks from {from} and is no PEER"),
             ),
-            Asking::Elsewhere(known) => self.log(
-                Matter::Stranger,
+            SourceReport::Elsewhere(known) => self.log(
+                Topic::Stranger,
                 &format_args!(
                     "host {address:06o} asks from {from}, and is answered at {known}, where its PEER is"
                 ),
             ),
         };
         if !is_logged {
-            self.ledger.forget_told(address);
+            self.sources.forget_reported(address);
         }
     }
 
     /// What was left out in a second that is over is reported too.
     fn turned(&mut self, link: &L) {
         if let Some(fault) = link.report().fault {
-            let _ = self.log(Matter::Socket, &fault);
+            let _ = self.log(Topic::Socket, &fault);
         }
         if !self.limiter.has_left_out() {
             return;
         }
         let now = self.second();
-        for matter in &Matter::EACH {
-            self.report_due(*matter, now);
+        for topic in &Topic::EACH {
+            self.report_due(*topic, now);
         }
     }
 }

@@ -1,7 +1,7 @@
 //! What a server's log knows of hosts.
 ghost use Rattle.std.specs.Prelude.{◌≡◌, ◌≤◌, length};
 ghost use Rattle.chaos_link.specs.declared.limits.TheConstants.{MAX_PEERS};
-ghost use Rattle.chaosd_log.specs.Ledger.{AsksAs, IsAskingOf, heard_at, known_at, place_of, source_at, untold_of, with_asked};
+ghost use Rattle.chaosd_log.specs.PeerSources.{AsksAs, IsReportOf, heard_at, known_at, place_of, source_at, unreported_of, with_asked};
 
 use crate::place::place_of;
 use chaos_link::{MAX_PEERS, Peer, Peers};
@@ -13,7 +13,7 @@ const ADDRESSES: usize = 65_536;
 
 /// What is to be reported of where a host asks from, once for each Chaosnet address.
 #[derive(Clone, Copy, Debug, PartialEq, Eq)]
-pub enum Asking {
+pub enum SourceReport {
     /// Nothing: it asks from its peer's UDP address, or was reported before.
     AsKnown,
     /// The host is no peer, and no bridge leads to it.
@@ -25,59 +25,59 @@ pub enum Asking {
 /// What a server's log knows of hosts: its peers and the bridge, from which UDP address each was
 /// heard last, and what was reported.
 #[derive(Drop)]
-pub struct Ledger {
+pub struct PeerSources {
     peers: Peers,
     heard: [Option<SocketAddrV4>; MAX_PEERS],
     stranger: Option<Peer>,
-    told: [bool; ADDRESSES],
+    reported: [bool; ADDRESSES],
 }
 
-impl Model for Ledger {
-    ghost use Rattle.chaosd_log.specs.Ledger.{LedgerView};
+impl Model for PeerSources {
+    ghost use Rattle.chaosd_log.specs.PeerSources.{PeerSourcesView};
 
-    ghost Value = { LedgerView };
+    ghost Value = { PeerSourcesView };
 
     ghost view = { λ s.
-        record { peers = s.peers; heard = s.heard; stranger = s.stranger; told = s.told } };
+        record { peers = s.peers; heard = s.heard; stranger = s.stranger; reported = s.reported } };
 }
 
 /// What is to be reported of a host that is known at the one UDP address, if at any, and asks from
 /// the other.
-fn asking_of(known: Option<SocketAddrV4>, from: SocketAddrV4) -> Asking
-    ensures { IsAskingOf known from result }
+fn report_of(known: Option<SocketAddrV4>, from: SocketAddrV4) -> SourceReport
+    ensures { IsReportOf known from result }
 {
     match known {
-        None => Asking::Stranger,
-        Some(known) if known == from => Asking::AsKnown,
-        Some(known) => Asking::Elsewhere(known),
+        None => SourceReport::Stranger,
+        Some(known) if known == from => SourceReport::AsKnown,
+        Some(known) => SourceReport::Elsewhere(known),
     }
 }
 
-impl Ledger {
+impl PeerSources {
     ghost use Rattle.std.specs.Prelude.{false, None, replicate};
 
-    /// The ledger of a server that has heard nobody.
+    /// The sources of a server that has heard nobody.
     pub fn new(peers: Peers) -> Self
-        // A new ledger has these peers, has heard nobody, and has reported nothing.
+        // At first there are these peers, nobody was heard, and nothing was reported.
         ensures { result
             ≡ record {
               peers = peers;
               heard = replicate MAX_PEERS None;
               stranger = None;
-              told = replicate 65536 false;
+              reported = replicate 65536 false;
             } }
     {
-        Ledger {
+        PeerSources {
             peers,
             heard: [None; MAX_PEERS],
             stranger: None,
-            told: [false; ADDRESSES],
+            reported: [false; ADDRESSES],
         }
     }
 
     /// The peers, lent.
     pub fn peers(&self) -> &Peers
-        // The peers are those that the ledger was made of.
+        // The peers are those that were given at first.
         ensures { result.now ≡ self.now.peers }
     {
         &self.peers
@@ -85,33 +85,33 @@ impl Ledger {
 
     /// A datagram of this host came from this UDP address. The result says what is to be reported
     /// of that.
-    pub fn hear(&mut self, address: u16, from: SocketAddrV4) -> Asking
+    pub fn hear(&mut self, address: u16, from: SocketAddrV4) -> SourceReport
         // A host is to be reported if it isn't answered, or if it asks from another UDP address
         // than the one where it is answered, and if its Chaosnet address wasn't reported before. It
         // is answered at its peer's UDP address, otherwise at the bridge's. The result then has the
         // UDP address where it is answered.
-        ensures asking { AsksAs address from self.old result }
-        // The ledger keeps the UDP address as the one where the host was heard last, and keeps that
-        // the host was reported.
-        ensures ledger { self.new ≡ with_asked address from result self.old }
+        ensures report { AsksAs address from self.old result }
+        // The UDP address is kept as the one where the host was heard last, and it is kept that the
+        // host was reported.
+        ensures sources { self.new ≡ with_asked address from result self.old }
     {
         let known = self.peers.find(address);
         self.note(address, from);
-        let asking = asking_of(known, from);
-        if asking == Asking::AsKnown || self.told[usize::from(address)] {
-            return Asking::AsKnown;
+        let report = report_of(known, from);
+        if report == SourceReport::AsKnown || self.reported[usize::from(address)] {
+            return SourceReport::AsKnown;
         }
-        self.told[usize::from(address)] = true;
-        asking
+        self.reported[usize::from(address)] = true;
+        report
     }
 
     /// The line about where this host asks from was left out: the next datagram from there is
     /// reported again.
-    pub fn forget_told(&mut self, address: u16)
+    pub fn forget_reported(&mut self, address: u16)
         // A host that asks from elsewhere is to be reported again, and nothing else changes.
-        ensures { self.new ≡ untold_of address self.old }
+        ensures { self.new ≡ unreported_of address self.old }
     {
-        self.told[usize::from(address)] = false;
+        self.reported[usize::from(address)] = false;
     }
 
     /// Keeps from where the host was heard.
@@ -131,8 +131,8 @@ impl Ledger {
         }
     }
 
-    /// The UDP address from which this host was heard last. The ledger keeps only the last host
-    /// that is no peer.
+    /// The UDP address from which this host was heard last. Of the hosts that are no peers, only the
+    /// last is known.
     pub fn source_of(&self, address: u16) -> Option<SocketAddrV4>
         // The result is where the host was heard last. For a host that is no peer, there is a
         // result only if it was the last such host.
