@@ -10,7 +10,7 @@ use std::net::SocketAddrV4;
 pub struct LinkReport {
     /// From which UDP address the datagram came that the receive answered.
     pub source: Option<SocketAddrV4>,
-    /// The last call of the socket that failed.
+    /// The last call of the socket that failed, with the number of those that failed before it.
     pub fault: Option<SocketFault>,
 }
 

@@ -1,6 +1,6 @@
 //! Which call of a socket failed, and why.
 ghost use Rattle.std.specs.Prelude.{◌≡◌};
-ghost use Rattle.chaos_link.specs.SocketFault.{fault_after, is_fault};
+ghost use Rattle.chaos_link.specs.SocketFault.{fault_after, faults_in, is_fault};
 
 use std::fmt::{Display, Formatter};
 use std::io::ErrorKind;
@@ -25,6 +25,8 @@ pub enum SocketCall {
 pub struct SocketFault {
     pub call: SocketCall,
     pub error: io::Error,
+    /// How many calls failed before it, since the last receive began.
+    pub earlier: u64,
 }
 
 impl Display for SocketCall {
@@ -40,7 +42,11 @@ impl Display for SocketCall {
 
 impl Display for SocketFault {
     fn fmt<W: fmt::Write>(&self, f: &mut Formatter<W>) -> fmt::Result {
-        write!(f, "{} failed: {}", self.call, self.error)
+        write!(f, "{} failed: {}", self.call, self.error)?;
+        match self.earlier {
+            0 => Ok(()),
+            earlier => write!(f, "; failures before it: {earlier}"),
+        }
     }
 }
 
@@ -58,8 +64,18 @@ fn is_fault(kind: ErrorKind) -> bool
     }
 }
 
+/// How many calls failed, where this is the last fault of a socket.
+fn faults_in(last: Option<SocketFault>) -> u64
+    ensures { result ≡ faults_in last }
+{
+    match last {
+        Some(fault) => fault.earlier.saturating_add(1),
+        None => 0,
+    }
+}
+
 /// The last fault of a socket after this call ended by an error: the call, where the error is a
-/// fault.
+/// fault. It counts the faults before it.
 pub(crate) fn fault_after(
     call: SocketCall,
     error: io::Error,
@@ -68,7 +84,11 @@ pub(crate) fn fault_after(
     ensures { result ≡ fault_after call error before }
 {
     if is_fault(error.kind()) {
-        Some(SocketFault { call, error })
+        Some(SocketFault {
+            call,
+            error,
+            earlier: faults_in(before),
+        })
     } else {
         before
     }

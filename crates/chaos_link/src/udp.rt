@@ -141,7 +141,8 @@ impl<S: DatagramSocket> Link for UdpLink<S> {
         // A send to a peer or the bridge fails exactly where the socket answered an error by which
         // it is gone. After any other error the datagram is lost, and the answer is Sent, the same
         // as after none. The link reports the error with this call and its UDP address, where the
-        // error is a fault, and otherwise what it reported before.
+        // error is a fault, and otherwise what it reported before. A fault has the number of those
+        // before it, since the last receive.
         ensures answered { result ≢ Sent.Unknown → (error : Option Error)
             × S.answered self.new.socket error × (result ≡ sent_after error)
             × ((to : SocketAddrV4) × (socket_of to_address self.old.peers ≡ Some to)
@@ -259,6 +260,7 @@ fn set_wait<S: DatagramSocket>(
             return Err(SocketFault {
                 call: SocketCall::SetWait,
                 error,
+                earlier: 0,
             });
         }
     }
@@ -266,6 +268,7 @@ fn set_wait<S: DatagramSocket>(
         return Err(SocketFault {
             call: SocketCall::SetWaits,
             error,
+            earlier: 0,
         });
     }
     *set = Some(waits);
