@@ -1,5 +1,5 @@
 //! What arrives.
-ghost use Rattle.std.specs.Prelude.{◌≡◌, ◌≢◌, ℕ, ◌<◌, [], ◌∷◌, length, slice_get, Some};
+ghost use Rattle.std.specs.Prelude.{◌≡◌, ℕ, ◌<◌, [], ◌∷◌, slice_get, Some};
 ghost use Rattle.chaos_conn.specs.declared.state.State.{State};
 ghost use Rattle.chaos_host.specs.declared.answers.HostDelivered.{HostDelivered};
 ghost use Rattle.chaos_host.specs.declared.answers.HostDisposition.{HostDisposition};
@@ -7,8 +7,8 @@ ghost use Rattle.chaos_host.specs.Disposition.{host_with_packet};
 ghost use Rattle.chaos_host.specs.Slot.{named_state};
 ghost use Rattle.chaos_packet.specs.Outbox.{room_of, with_put};
 ghost use Rattle.chaos_host.specs.Acted.{HostDoes};
-ghost use Rattle.chaos_host.specs.Route.{IsRouted, IsRequest};
-ghost use Rattle.chaos_host.specs.Deliver.{host_deliver, deliver_by, deliver_slot, take_request_slot, no_server, table_full, los_packet};
+ghost use Rattle.chaos_host.specs.Route.{IsRequest};
+ghost use Rattle.chaos_host.specs.Deliver.{host_deliver, take_request_slot, no_server, table_full, los_packet};
 
 use crate::answers::{HostDelivered, HostDisposition};
 use crate::host::Host;
@@ -60,29 +60,13 @@ impl Host {
         ensures holds { (id : ℕ) → result ≡ HostDisposition.Requested id →
             named_state self.new.slots id ≡ Some State.RfcReceived }
     {
-        let route = self.route(packet);
-        self.follow(route, packet, now, out)
-    }
-
-    /// Takes a packet where its route leads.
-    fn follow(
-        &mut self,
-        route: Route,
-        packet: &Packet,
-        now: u64,
-        out: &mut Outbox,
-    ) -> HostDisposition
-        requires sound { IsRouted self.old packet.now route }
-        requires room { 0 < room_of out.old }
-        ensures does { HostDoes self.old 1 (deliver_by self.old packet.now now route)
-            self.new out.old out.new (host_with_packet result packet.now) }
-        ensures holds { (id : ℕ) → result ≡ HostDisposition.Requested id →
-            named_state self.new.slots id ≡ Some State.RfcReceived }
-    {
-        match route {
+        match self.route(packet) {
             Route::NotOurs => HostDisposition::Dropped(Why::NotOurs),
             Route::NoSource => HostDisposition::Dropped(Why::NoSource),
-            Route::Slot(place) => self.deliver_to(place, packet, now, out),
+            Route::Slot(place) => {
+                let id = index_at(&self.slots, place);
+                HostDisposition::At(id, self.slots[place].conn.take(packet, now, out))
+            }
             Route::NoServer => self.refuse_no_server(packet, out),
             Route::TableFull => self.refuse_table_full(packet, out),
             Route::Request(place) => self.take_request(place, packet, now, out),
@@ -120,25 +104,6 @@ impl Host {
     {
         out.put(los_packet(packet));
         HostDisposition::NoConnection
-    }
-
-    /// The connection in a slot gets a packet.
-    fn deliver_to(
-        &mut self,
-        place: usize,
-        packet: &Packet,
-        now: u64,
-        out: &mut Outbox,
-    ) -> HostDisposition
-        requires within { place < length self.old.slots }
-        requires room { 0 < room_of out.old }
-        ensures does { HostDoes self.old 1
-            (deliver_slot self.old packet.now now place (slice_get self.old.slots place))
-            self.new out.old out.new (host_with_packet result packet.now) }
-        ensures not_new { (id : ℕ) → result ≢ HostDisposition.Requested id }
-    {
-        let id = index_at(&self.slots, place);
-        HostDisposition::At(id, self.slots[place].conn.take(packet, now, out))
     }
 
     /// The connection in a free slot takes a request.
