@@ -46,29 +46,11 @@ impl Host {
         Some((used.index_at(slot), &used.conn))
     }
 
-    /// The first slot in use from a place on. So a walk over the connections looks at no free slot.
-    pub fn next_in_use(&self, from: usize) -> Option<usize>
+    /// The first connection in a slot from a place on, with the place and its index. So a walk over
+    /// the connections looks at no free slot, and into the table once for each connection.
+    pub fn next_conn(&self, from: usize) -> Option<(usize, ConnId, &Conn)>
         // The slot at the place that is answered is in use, and each slot before it, from `from`
         // on, is free. If the answer is `None`, each slot from `from` on is free.
-        ensures next { IsNextInUse self.now from result }
-        // Every host is as `IsHost` says.
-        ensures sound { IsHost self.now }
-    {
-        if from >= self.slots.len() {
-            return None;
-        }
-        let mut place = from;
-        // A slot in use is found by the look that its user makes anyway. The set leads past others.
-        'free: while !is_used_at(&self.slots, place) {
-            place = self.in_use.next(place)?;
-        }
-        Some(place)
-    }
-
-    /// The first connection in a slot from a place on, with the place and its index. So a caller
-    /// that walks over the connections looks into the table once for each.
-    pub fn next_conn(&self, from: usize) -> Option<(usize, ConnId, &Conn)>
-        // The place is the answer of `next_in_use`: the next slot in use, or none.
         ensures next { IsNextInUse self.now from (option_map (λ at. at.0) result) }
         // The connection in that slot is lent with all its looks, and with its index: the answer
         // of `conn_at` at the place.
@@ -80,7 +62,14 @@ impl Host {
         // Every host is as `IsHost` says.
         ensures sound { IsHost self.now }
     {
-        let place = self.next_in_use(from)?;
+        if from >= self.slots.len() {
+            return None;
+        }
+        let mut place = from;
+        // A slot in use is found by the look that its user makes anyway. The set leads past others.
+        'free: while !is_used_at(&self.slots, place) {
+            place = self.in_use.next(place)?;
+        }
         let used = &self.slots[place];
         Some((place, used.index_at(place), &used.conn))
     }

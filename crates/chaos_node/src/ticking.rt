@@ -23,7 +23,7 @@ impl<L: Link> Turn<'_, L> {
         let _window = self.host.config().send_cap();
         let mut sent = false;
         let mut from = 0;
-        'slots: while let Some(place) = self.host.next_in_use(from) {
+        'slots: while let Some((place, _, _)) = self.host.next_conn(from) {
             sent = self.tick_slot(place) || sent;
             from = place + 1;
         }

@@ -76,7 +76,7 @@ pub(crate) fn close_slots<L: Link>(
 {
     let mut sent = false;
     let mut from = 0;
-    'slots: while let Some(place) = turn.host.next_in_use(from) {
+    'slots: while let Some((place, _, _)) = turn.host.next_conn(from) {
         sent = close_slot(turn, sessions, place, silence) || sent;
         from = place + 1;
     }
@@ -130,7 +130,7 @@ pub fn release_slots<L: Link>(turn: &mut Turn<'_, L>) -> bool
 {
     let mut sent = false;
     let mut from = 0;
-    'slots: while let Some(place) = turn.host.next_in_use(from) {
+    'slots: while let Some((place, _, _)) = turn.host.next_conn(from) {
         sent = release_slot(turn, place) || sent;
         from = place + 1;
     }

@@ -24,7 +24,7 @@ pub fn can_serve_any(host: &Host) -> bool
     ensures { result ≡ can_serve_any host.now }
 {
     let mut from = 0;
-    'slots: while let Some(place) = host.next_in_use(from) {
+    'slots: while let Some((place, _, _)) = host.next_conn(from) {
         if serves_at(host, place) {
             return true;
         }

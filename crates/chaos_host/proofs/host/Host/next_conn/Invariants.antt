@@ -1,6 +1,6 @@
 use Rattle.std.proofs.Common.{◌≡◌, ℕ, ◌<◌, ◌≤◌, false, if◌then◌else◌}
 use Rattle.chaos_host.specs.Slot.{is_used_at}
-use Rattle.chaos_host.proofs.host.Host.next_in_use.Given as goal
+use Rattle.chaos_host.proofs.host.Host.next_conn.Given as goal
 
 -- the slots so far are free
 abbrev pub invariant-free : goal.invariant-free
