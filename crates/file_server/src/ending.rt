@@ -59,7 +59,7 @@ fn may_end(conn: &Conn, sessions: &Sessions, place: usize, silence: Option<u64>,
         (is_late silence (serving_at sessions.now place).since now) conn.now ≡ false }
     ensures lives { result ≡ false → is_ended conn.now.state ≡ false }
 {
-    let is_late = conn.keeps_opn() && is_late(silence, sessions.since(place), now);
+    let is_late = is_late(silence, sessions.since(place), now) && conn.keeps_opn();
     sessions.eof(place) || is_late || conn.state().is_ended()
 }
 
