@@ -17,7 +17,7 @@ use Rattle.chaos_conn.specs.declared.answers.Delivered.{Delivered}
 use Rattle.chaos_conn.specs.declared.answers.Ticked.{Ticked}
 use Rattle.chaos_host.specs.declared.slot.Slot.{Slot}
 use Rattle.chaos_host.specs.declared.answers.HostDelivered.TheVariants as answer
-use Rattle.chaos_host.specs.Slot.{index_of, place_of, with_index, named_slot, is_used, is_used_at, IsTable, HasConfig, after_ending}
+use Rattle.chaos_host.specs.Slot.{index_of, place_of, with_index, named_slot, is_used, is_used_at, is_used_in, IsTable, HasConfig, after_ending}
 use Rattle.chaos_host.specs.View.{HostView, IsHost}
 use Rattle.chaos_host.specs.Acted.{HostDoes, no_effect, on_slot, on_slot_then_free}
 use Rattle.chaos_host.specs.Deliver.{deliver_slot, take_request_slot}
@@ -45,6 +45,14 @@ host_with v place slot = record v { slots = slice_set v.slots place slot }
 pub stands : (slots : List Slot) (place : ℕ) (slot : Slot) → place < length slots
     → slot ≡ slice_index_or slots place slot → slice_get slots place ≡ Some slot
 stands slots place slot within read = slice_get_read slots (length slots) place slot refl within read
+
+-- there is a slot where one is in use
+pub used_within : (slots : List Slot) (place : ℕ) → is_used_at slots place ≡ true → place < length slots
+used_within slots place used = inside (slice_get slots place) refl used
+  where
+    inside : (o : Option Slot) → slice_get slots place ≡ o → is_used_in o ≡ true → place < length slots
+    inside None there used = absurd (cc)
+    inside (Some slot) there used = slice_get_within slots place slot there
 
 -- what stands at a place can be read there
 within_at : (slots : List Slot) (place : ℕ) (slot : Slot) → slice_get slots place ≡ Some slot → place < length slots

@@ -62,14 +62,12 @@ impl Host {
         // Every host is as `IsHost` says.
         ensures sound { IsHost self.now }
     {
-        if from >= self.slots.len() {
-            return None;
-        }
-        let mut place = from;
         // A slot in use is found by the look that its user makes anyway. The set leads past others.
-        'free: while !is_used_at(&self.slots, place) {
-            place = self.in_use.next(place)?;
-        }
+        let place = if is_used_at(&self.slots, from) {
+            from
+        } else {
+            self.in_use.next(from)?
+        };
         let used = &self.slots[place];
         Some((place, used.index_at(place), &used.conn))
     }
