@@ -13,18 +13,6 @@ use chaos_host::{ConnId, Host};
 use chaos_packet::{Opcode, Outbox};
 use std::alloc::Global;
 
-/// Reads the command in front, and writes its reply.
-#[tactic(auto, using(crate::proofs::Twice::put_twice, crate::proofs::Twice::length_both))]
-fn answer_at(host: &mut Host, id: ConnId, reply: &[u8], now: u64, out: &mut Outbox) -> Served
-    requires { 2 ≤ room_of out.old }
-    ensures { HostDoes host.old 2 (after_reply_at host.old id reply.now now)
-        host.new out.old out.new result }
-{
-    let _command = host.read_done(id, out);
-    let _number = host.write(id, Opcode::DATA, reply, now, out);
-    Served::Replied
-}
-
 /// Reads the EOF in front.
 fn finish_at(host: &mut Host, id: ConnId, out: &mut Outbox) -> Served
     requires { 2 ≤ room_of out.old }
@@ -71,7 +59,9 @@ pub fn serve_and_report<S: Store>(
         Task::Command(body) => {
             let mut reply = Reply::new();
             let made = session.apply_into(at.alloc, store, body, &mut reply);
-            (answer_at(host, id, reply.as_slice(), at.moment, out), made)
+            let _command = host.read_done(id, out);
+            let _number = host.write(id, Opcode::DATA, reply.as_slice(), at.moment, out);
+            (Served::Replied, made)
         }
     }
 }

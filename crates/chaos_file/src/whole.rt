@@ -36,24 +36,6 @@ pub fn require_room(bytes: u64) -> io::Result<()> {
     Ok(())
 }
 
-/// Writes a new file, with this mode where one is given, flushes it to the disk, and gives it its
-/// place.
-fn write_and_rename<R: Files>(
-    rt: &R,
-    fresh: &str,
-    place: &str,
-    mode: Option<Permissions>,
-    bytes: &[u8],
-) -> io::Result<()> {
-    let mut file = File::create_new(rt, fresh)?;
-    if let Some(mode) = mode {
-        file.set_permissions(mode)?;
-    }
-    file.write_all(bytes)?;
-    file.sync_all()?;
-    fs::rename(rt, fresh, place)
-}
-
 /// Writes a file whole under a fresh name, where nothing is, flushes it to the disk, and then gives
 /// it its place, also in place of a file that is there, whose mode the caller may hand in. So no
 /// half file ever has the place.
@@ -70,9 +52,18 @@ pub fn write_whole<R: Files>(
     bytes: &[u8],
 ) -> io::Result<()> {
     require_room(bytes.len() as u64)?;
-    if let Err(fault) = write_and_rename(rt, fresh, place, mode, bytes) {
+    let mut file = File::create_new(rt, fresh)?;
+    let with_mode = match mode {
+        Some(mode) => file.set_permissions(mode),
+        None => Ok(()),
+    };
+    // The first step that fails is the last, and the fresh file goes.
+    let placed = with_mode
+        .and_then(|()| file.write_all(bytes))
+        .and_then(|()| file.sync_all())
+        .and_then(|()| fs::rename(rt, fresh, place));
+    if placed.is_err() {
         let _ = fs::remove_file(rt, fresh);
-        return Err(fault);
     }
-    Ok(())
+    placed
 }
