@@ -1,24 +1,21 @@
 -- What a service logged, turn after turn.
-use Rattle.std.proofs.Common.{true, ◌≡◌, ◌∙◌, ℕ, ◌+◌, List, [], ◌∷◌, length, min, refl, ap, subst, sym}
+use Rattle.std.proofs.Common.{true, ◌≡◌, ℕ, List, length, min, refl, subst, sym}
 use Rattle.std.specs.Prelude.{Option, Some, Result}
 use Rattle.chaos_conn.specs.Config.{ConfigView}
 use Rattle.chaos_file.specs.Store.{StoreChange}
-use Rattle.chaos_link.specs.Link.{Ask, AskedSince, Asks, QueueView}
+use Rattle.chaos_link.specs.Link.{Ask, QueueView}
 use Rattle.chaos_link.specs.declared.carriage.Carriage.{Carriage}
 use Rattle.chaos_link.specs.declared.report.LinkReport.{LinkReport}
 use Rattle.chaos_node.specs.Link.{turn_asks}
-use Rattle.chaos_node.specs.Station.{Station}
 use Rattle.chaos_node.specs.declared.end.TurnEnd.{TurnEnd}
-use Rattle.chaos_node.specs.Moments.{Readings, Reads}
 use Rattle.chaos_node.specs.declared.fault.NodeFault.{NodeFault}
 use Rattle.file_server.specs.Logged.{Logged, LogsTurn}
 use Rattle.file_server.specs.LoggedRun.{LoggedService, LogsBy, LogsTurnAt, new_logged, with_log}
-use Rattle.file_server.specs.Server.{Server}
-use Rattle.file_server.specs.Service.{MadeTurns, MakesTurns}
+use Rattle.file_server.specs.Service.{MadeTurns}
 use Rattle.file_server.specs.Waiting.{waits}
 use Rattle.file_server.specs.Watch.{Event, told_turned, watched, watched_slots}
 use Rattle.file_server.specs.declared.limits.TheConstants.{SERVER_CONNS, SILENT_MILLIS}
-use Rattle.file_server.proofs.Served.{HasMade, made_next}
+use Rattle.file_server.proofs.Served.{HasMade}
 
 module _ {S : Type 0} (changes : S → S → StoreChange) (carriage : Carriage) (starts : ℕ → ℕ) where
   abbrev pub HasLogged : (List ℕ → Type 0) → (List Ask → Type 0) → ℕ → LoggedService S → LoggedService S → Type 0

@@ -19,12 +19,12 @@ use Rattle.chaos_file.specs.declared.served.Served.{Served}
 use Rattle.chaos_file.specs.declared.served.Served.TheVariants as told
 use Rattle.chaos_file.proofs.ServeSlots.{serves_one}
 use Rattle.chaos_node.specs.Link.{SendsLots, has_packets}
-use Rattle.file_server.specs.Serve.{ServerDoes, ServesPlaceBy, ServesSlotBy, Uses, serving_after}
+use Rattle.file_server.specs.Serve.{ServerDoes, ServesSlotBy, Uses, serving_after}
 use Rattle.file_server.specs.Sessions.{Serving, eof_after, serving_at, serving_of}
-use Rattle.chaos_node.specs.Station.{Station, station}
-use Rattle.file_server.specs.Server.{Server, server}
+use Rattle.chaos_node.specs.Station.{station}
+use Rattle.file_server.specs.Server.{server}
 use Rattle.chaos_link.proofs.Asked.{asks_none}
-use Rattle.chaos_node.proofs.Queue.{lots_nothing, sends_nothing}
+use Rattle.chaos_node.proofs.Queue.{sends_nothing}
 use Rattle.file_server.proofs.Relation.{kept_so, slot_so}
 
 -- what serving would tell, where it serves nothing
@@ -81,20 +81,6 @@ nothing_sent {L} {asked} Two queue packets e =
     rw e (record { sends = sends_nothing queue; asks = asks_none asked; read = refl })
 
 module _ {S : Type 0} (uses : Uses S) where
-  -- where no connection is there, nothing is served
-  pub none_there : {L : Type 0} {asked : AskedSince L Ask} (carriage : Carriage) (a : Station (Server S)) (place now : ℕ)
-      → id_at a.node.host place ≡ None → ServerDoes (Asks asked asked) carriage (ServesSlotBy uses now place) a a false
-  none_there carriage a place now e = record {
-    lots = [];
-    done = subst (λ (o : Option ℕ). ServesPlaceBy uses now place o a.node a.node []) (sym e) (refl, refl);
-    sends = lots_nothing carriage a.queue;
-    outbox = refl;
-    told = refl;
-    config = refl;
-    size = refl;
-    count = refl;
-  }
-
   -- where it has nothing to serve, and its session is there, serving its slot changes nothing
   pub passed_so : {L : Type 0} {asked : AskedSince L Ask} (carriage : Carriage) (here : Serving) (sessions kept : List Serving) (store : S) (place id now : ℕ) (host : HostView) (conn : ConnView) (out : OutboxView) (queue : Option QueueView)
       → id_at host place ≡ Some id → here ≡ serving_at sessions place → kept ≡ slice_set sessions place here → serving_of id now here ≡ here → host_look host id (λ c. c) ≡ Ok conn → is_served (Some (work_of conn)) ≡ false

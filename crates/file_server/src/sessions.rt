@@ -1,11 +1,16 @@
 //! A session for each slot of a host.
-ghost use Rattle.std.specs.Prelude.{◌≡◌, ◌<◌, ℕ, [], IfOk, false, length, option_map, replicate, true};
+ghost use Rattle.std.specs.Prelude.{◌≡◌, ◌<◌, ◌≤◌, [], IfOk, false, length, option_map, replicate};
+ghost use Rattle.chaos_packet.specs.Outbox.{room_of};
 ghost use Rattle.chaos_host.specs.View.{id_at};
-ghost use Rattle.file_server.specs.Sessions.{Serving, new_serving, serving_at, serving_of, eof_after, without_files};
+ghost use Rattle.chaos_file.specs.Store.{change};
+ghost use Rattle.file_server.specs.Logged.{report_use};
+ghost use Rattle.file_server.specs.Serve.{DoesKept, SessionServesBy};
+ghost use Rattle.file_server.specs.Sessions.{Serving, first_serving, new_serving, serving_at, serving_of, without_files};
 ghost use Rattle.file_server.specs.Slots.{given_back, given_back_at};
 
-use chaos_file::{Served, Session};
+use chaos_file::{Change, ServeAt, Served, Session, Store, serve_and_report};
 use chaos_host::{ConnId, Host};
+use chaos_packet::Outbox;
 use std::alloc::{AllocError, Global};
 use std::marker::Model;
 
@@ -166,25 +171,48 @@ impl Kept {
         })
     }
 
-    /// Whether it serves this connection already.
-    pub(crate) fn serves(&self, id: ConnId) -> bool
-        ensures { (now : ℕ) → result ≡ true → serving_of id now self.now ≡ self.now }
+    /// Begins anew: with a new session for this connection, from a moment on.
+    fn begin(&mut self, id: ConnId, now: u64)
+        ensures { self.new ≡ first_serving id now }
     {
-        self.id == Some(id)
+        self.id = Some(id);
+        self.eof = false;
+        self.since = now;
+        self.commands = 0;
+        *self.session = Session::new();
     }
 
-    /// Turns to this connection at a moment: with a new session, unless it is the one that was
-    /// served so far.
-    pub(crate) fn turn_to(&mut self, id: ConnId, now: u64)
-        ensures { self.new ≡ serving_of id now self.old }
+    /// Serves a connection once: with a new session, unless it is the one that was served so far.
+    /// Keeps that an EOF was served, or counts the command; and keeps whether files are open. Says
+    /// what the command changed.
+    pub(crate) fn serve<S: Store>(
+        &mut self,
+        host: &mut Host,
+        id: ConnId,
+        store: &mut S,
+        out: &mut Outbox,
+        at: &ServeAt,
+    ) -> Option<Change>
+        requires { 2 ≤ room_of out.old }
+        ensures { SessionServesBy
+            (report_use (change S.contents S.may_give S.count store.old store.new) result)
+            at.now.moment id (serving_of id at.now.moment self.old)
+            (λ serving acted. DoesKept serving self.new host.old acted host.new out.old out.new)
+            host.old }
     {
         if self.id != Some(id) {
-            self.id = Some(id);
-            self.eof = false;
-            self.since = now;
-            self.commands = 0;
-            *self.session = Session::new();
+            self.begin(id, at.moment);
         }
+        self.may_hold = true;
+        let session = &mut *self.session;
+        let (served, made) = serve_and_report(at, host, id, session, store, out);
+        match served {
+            Served::Eof => self.eof = true,
+            Served::Replied => self.commands = self.commands.saturating_add(1),
+            _ => {}
+        }
+        self.may_hold = self.session.open_files() > 0;
+        made
     }
 
     /// Whether its session may have files open.
@@ -200,17 +228,5 @@ impl Kept {
     {
         self.session.drop_files();
         self.may_hold = false;
-    }
-
-    /// Keeps that an EOF was served, or counts a command; and keeps whether files are open.
-    pub(crate) fn note(&mut self, served: Served)
-        ensures { self.new ≡ record self.old { eof = eof_after self.old.eof served } }
-    {
-        match served {
-            Served::Eof => self.eof = true,
-            Served::Replied => self.commands = self.commands.saturating_add(1),
-            _ => {}
-        }
-        self.may_hold = self.session.open_files() > 0;
     }
 }
