@@ -1,12 +1,10 @@
 //! The log of a server's connections, of what their commands changed, and of what its link reports.
 ghost use Rattle.std.specs.Prelude.{◌≡◌, List, Option, option_map};
 ghost use Rattle.chaos_link.specs.declared.report.LinkReport.{LinkReport};
-ghost use Rattle.file_server.specs.Logged.{told_arrival};
 ghost use Rattle.file_server.specs.Watch.{Event, told_changed, told_ended, told_heard, told_opened, told_turned};
 
 use chaos_conn::End;
 use chaos_file::{Cause, Change};
-use chaos_link::{LinkFault, Packets};
 
 /// Why a connection ended, as far as its host knows.
 #[derive(Clone, Copy, Debug, PartialEq, Eq)]
@@ -74,23 +72,6 @@ pub trait LinkLog<L>: Log {
     fn turned(&mut self, link: &L)
         // The log holds the fault that the link reports, if any, behind all that it held before.
         ensures { Self.told self.new ≡ told_turned (reads link.now) (Self.told self.old) };
-}
-
-/// Logs whose datagram came, where a host's did.
-pub(crate) fn log_arrival<L, G: LinkLog<L>>(
-    log: &mut G,
-    link: &L,
-    came: &Option<Result<Packets<'_>, LinkFault>>,
-)
-    ensures { G.told log.new ≡ told_arrival came.now (G.reads link.now) (G.told log.old) }
-{
-    let Some(Ok(packets)) = came else {
-        return;
-    };
-    match packets.source() {
-        Some(address) if address != 0 => log.heard(link, address),
-        _ => {}
-    }
 }
 
 /// A log that keeps nothing, and promises nothing.

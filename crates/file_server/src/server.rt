@@ -2,7 +2,7 @@
 ghost use Rattle.std.specs.Prelude.{◌≡◌, ◌<◌, ◌↔◌, length, IfErr};
 
 use crate::limits::{SERVER_CONNS, SILENT_MILLIS};
-use crate::log::{LinkLog, Log, log_arrival};
+use crate::log::{LinkLog, Log};
 use crate::phases::take_turn;
 use crate::sessions::Sessions;
 use crate::terms::Terms;
@@ -129,7 +129,13 @@ impl Server {
         let node = &mut self.node;
         let carriage = node.carriage;
         let begun = begin(link, &mut node.out, carriage, &mut node.buffer, may_wait);
-        log_arrival(log, &*link, &begun.came);
+        // A datagram of a host is logged before anything is made of it.
+        if let Some(Ok(packets)) = &begun.came {
+            match packets.source() {
+                Some(address) if address != 0 => log.heard(&*link, address),
+                _ => {}
+            }
+        }
         let mut turn = Turn {
             host: &mut node.host,
             link,

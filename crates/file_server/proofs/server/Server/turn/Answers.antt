@@ -1,4 +1,4 @@
-use Rattle.std.proofs.Common.{Bool, List, Option, Some, refl, rules, subst}
+use Rattle.std.proofs.Common.{◌≡◌, Bool, List, Option, Some, refl, rules, subst}
 use Rattle.chaos_packet.specs.Outbox.{OutboxView}
 use Rattle.chaos_file.specs.Store.{change}
 use Rattle.chaos_host.specs.View.{HostView}
@@ -10,13 +10,14 @@ use Rattle.chaos_node.proofs.Whole.{goes_over}
 use Rattle.file_server.specs.InTurn.{server_in}
 use Rattle.file_server.specs.Server.{server}
 use Rattle.file_server.specs.Service.{service_of}
-use Rattle.file_server.specs.Logged.{IsReadOf, LogsTurn, logged_uses}
+use Rattle.file_server.specs.Logged.{IsReadOf, LogsTurn, logged_uses, told_arrival}
 use Rattle.file_server.specs.Turn.{IsTurnBy}
 use Rattle.file_server.specs.Watch.{Event}
 use Rattle.file_server.specs.Waiting.{waits}
 use Rattle.file_server.specs.declared.limits.TheConstants.{SILENT_MILLIS}
 use Rattle.file_server.proofs.Logged.{logs_plain}
 use Rattle.file_server.proofs.server.Server.turn.Goals as goal
+use Rattle.file_server.proofs.server.Server.turn.Goals.{in-Some-Ok+in-Some, in-Some-Ok+in-Some+else-address-ne0, in-Some-Ok+in-None-1, in-Some+in-Err-1, in-None-1}
 
 pub returns-clause-logs : goal.returns-clause-logs
 returns-clause-logs g c =
@@ -29,6 +30,15 @@ returns-clause-logs g c =
     let read : List Ask → LinkReport → Type 0 =
     IsReadOf g.G.LinkLog.reads (λ l. Asks (asked c.args.link.now) (asked l)) in
     let changes = change g.S.Store.contents g.S.Store.may_give g.S.Store.count in
+    let logged : told c.match-begun.log
+    ≡ told_arrival begun.result.came (g.G.LinkLog.reads begun.new.link) (told c.args.log.now) =
+    elim c.match-begun.branch [
+      | in-Some-Ok+in-Some w ↦ search rules
+      | in-Some-Ok+in-Some+else-address-ne0 w ↦ search rules
+      | in-Some-Ok+in-None-1 w ↦ search rules
+      | in-Some+in-Err-1 w ↦ search rules
+      | in-None-1 w ↦ search rules
+    ] in
     let before = service_of c.args.self.now (c.args.store.now, told c.args.log.now) (queue c.args.link.now) in
     left_as
     (λ (h : HostView) l (o : OutboxView). LogsTurn changes (Some SILENT_MILLIS) read (Asks (asked c.args.link.now) (asked l))
@@ -50,7 +60,7 @@ returns-clause-logs g c =
           (λ (t : Option (List Event)). IsTurnBy (logged_uses changes) (Some SILENT_MILLIS) begun.result.came c.args.start
           c.args.now (server node.host c.args.self.now.sessions (c.args.store.now, t))
           (server_in sent.new.turn sent.new.sessions (sent.new.store, told sent.new.log)).node sent.ensures.0.lots)
-          c.log_arrival.ensures sent.ensures.0.done;
+          logged sent.ensures.0.done;
       link =
           goes_over node.carriage before (server_in sent.new.turn sent.new.sessions (sent.new.store, told sent.new.log))
           (queue begun.new.link) sent.ensures.0.lots begun.result.came begun.result.worked sent.result c.end_of.result
