@@ -1,5 +1,5 @@
 -- Phases of a server's turn that has begun, one after another.
-use Rattle.std.proofs.Common.{◌≡◌, ℕ, suc, Bool, true, false, if◌then◌else◌, List, [], length, slice_get, Option, Some, None, Ok, Err, refl, ap, sym, ◌∙◌, subst, slice_set}
+use Rattle.std.proofs.Common.{◌≡◌, ◌≢◌, ℕ, suc, Bool, true, false, if◌then◌else◌, List, [], length, slice_get, Option, Some, None, Ok, Err, refl, ap, sym, ◌∙◌, subst, slice_set}
 use Rattle.std.proofs.lemmas.List.{append-nil, set-get_or}
 use Rattle.chaos_packet.specs.Packet.{PacketView}
 use Rattle.chaos_conn.specs.View.{ConnView}
@@ -7,8 +7,11 @@ use Rattle.chaos_file.specs.ServeCalls.{is_served}
 use Rattle.chaos_file.specs.ServeWork.{work_of}
 use Rattle.chaos_file.specs.Session.{SessionView}
 use Rattle.chaos_host.specs.Deliver.{host_deliver}
+use Rattle.chaos_host.specs.Disposition.{host_with_packet}
 use Rattle.chaos_host.specs.View.{HostView, host_look, id_at}
 use Rattle.chaos_host.specs.declared.answers.HostDelivered.{HostDelivered}
+use Rattle.chaos_host.specs.declared.answers.HostDisposition.{HostDisposition}
+use Rattle.chaos_host.specs.declared.answers.HostDisposition.TheVariants as disposition
 use Rattle.chaos_link.specs.declared.carriage.Carriage.{Carriage}
 use Rattle.chaos_link.specs.Link.{Asks}
 use Rattle.chaos_link.specs.declared.link.Link.{Ghosts}
@@ -39,6 +42,22 @@ greets_in : (came : Arrival) (start now : ℕ) (h : HostView)
 greets_in None start now h = refl
 greets_in (Some (Err fault)) start now h = refl
 greets_in (Some (Ok packets)) start now h = refl
+
+-- whether packets went out in any of three phases
+pub any_is : (last more sent : Bool)
+    → (if last then true else (if more then true else sent)) ≡ (if (if last then true else more) then true else sent)
+any_is true more sent = refl
+any_is false more sent = refl
+
+-- what is no request is no request for FILE
+pub none_asked : (became : HostDisposition) (p : PacketView) → ((id : ℕ) → became ≢ disposition.Requested id)
+    → request_in p (host_with_packet became p) ≡ None
+none_asked (disposition.Requested id) p not = absurd (not id refl)
+none_asked (disposition.At id told) p not = refl
+none_asked disposition.NoServer p not = refl
+none_asked disposition.TableFull p not = refl
+none_asked disposition.NoConnection p not = refl
+none_asked (disposition.Dropped why) p not = refl
 
 module _ {L : Type 0} {G : Ghosts L} where
   -- a packet was delivered, and the request for FILE that it is, accepted
