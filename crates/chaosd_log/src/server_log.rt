@@ -25,7 +25,7 @@ fn words_of(ending: Ending) -> &'static str {
 /// such a host isn't answered; and for what each command changed.
 impl<R: Clock + Eprint> Log for Journal<'_, R> {
     // What is written to standard error no clause can say.
-    ghost told = { λ _. None };
+    ghost logged = { λ _. None };
 
     fn opened(&mut self, peer: End) {
         let End { address, index } = peer;

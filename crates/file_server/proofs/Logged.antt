@@ -1,4 +1,4 @@
--- A log that is told what each served command changed; and the same turns without the log.
+-- A log that gets what each served command changed; and the same turns without the log.
 use Rattle.std.proofs.Common.{◌≡◌, zero, suc, ℕ, Bool, List, Option, Some, None, ap, ◌∙◌}
 use Rattle.chaos_packet.specs.Outbox.{OutboxView}
 use Rattle.chaos_packet.specs.Packet.{PacketView}
@@ -20,8 +20,8 @@ use Rattle.chaos_node.specs.Arrive.{Arrival}
 use Rattle.chaos_node.specs.Station.{Station, station}
 use Rattle.chaos_node.specs.declared.end.TurnEnd.{TurnEnd}
 use Rattle.file_server.specs.Arrive.{arrive_at_server}
-use Rattle.file_server.specs.Logged.{Logged, LogsTurn, after_arrival, logged_use, logged_uses, report_use, told_made}
-use Rattle.file_server.specs.Serve.{DoesKept, IsServedAt, ServesPlace, ServesPlaceBy, ServesSlots, ServesSlotsBy, SessionServesBy, serving_after}
+use Rattle.file_server.specs.Logged.{Logged, LogsTurn, after_arrival, logged_made, logged_use, logged_uses, report_use}
+use Rattle.file_server.specs.Serve.{IsServedAt, ServesPlace, ServesPlaceBy, ServesSlots, ServesSlotsBy, SessionServesBy, SlotDoes, serving_after}
 use Rattle.file_server.specs.Server.{Server, server, with_host}
 use Rattle.file_server.specs.Sessions.{Serving, serving_at, serving_of}
 use Rattle.file_server.specs.Turn.{IsTurn, IsTurnBy, RunsTurn, RunsTurnBy}
@@ -31,33 +31,33 @@ use Rattle.file_server.proofs.Relation.{in_found, serves_so}
 -- a slot's session is left as the session that served
 left_so : (answered : List ℕ → List ℕ → Type 0) (unused : Type 0) (serving left : Serving) (t : SessionView)
     (old new : HostView) (before after : OutboxView) (id now : ℕ)
-    → DoesWorkInSlotBy answered unused (λ acted. DoesKept (serving_after serving t acted.answer) left old acted new before after) old (place_of id) now (named_slot old.slots id)
+    → DoesWorkInSlotBy answered unused (λ acted. SlotDoes (serving_after serving t acted.answer) left old acted new before after) old (place_of id) now (named_slot old.slots id)
     → left.session ≡ t
 left_so answered unused serving left t old new before after id now done =
     let found =
-    in_found answered unused (λ acted. DoesKept (serving_after serving t acted.answer) left old acted new before after) old
+    in_found answered unused (λ acted. SlotDoes (serving_after serving t acted.answer) left old acted new before after) old
     (place_of id) now (named_slot old.slots id) done in
-    ap (λ (s : Serving). s.session) found.2.kept
+    ap (λ (s : Serving). s.session) found.2.session
 
 -- what was reported of a command was logged
-pub logged_so : (store : StoreChange) (told told' : Option (List Event)) (found peer : End) (made : Option Change)
+pub logged_so : (store : StoreChange) (entries entries' : Option (List Event)) (found peer : End) (made : Option Change)
     (now id : ℕ) (serving left : Serving) (old new : HostView) (before after : OutboxView)
-    → found ≡ peer → told' ≡ told_made found left.session.name made told
-    → SessionServesBy (report_use store made) now id serving (λ s acted. DoesKept s left old acted new before after) old
-    → SessionServesBy (logged_use store told told' peer) now id serving
-    (λ s acted. DoesKept s left old acted new before after) old
-logged_so store told told' found peer made now id serving left old new before after is e done =
+    → found ≡ peer → entries' ≡ logged_made found left.session.name made entries
+    → SessionServesBy (report_use store made) now id serving (λ s acted. SlotDoes s left old acted new before after) old
+    → SessionServesBy (logged_use store entries entries' peer) now id serving
+    (λ s acted. SlotDoes s left old acted new before after) old
+logged_so store entries entries' found peer made now id serving left old new before after is e done =
     let t = done.0 in
     let u = report_use store made serving.session t in
-    let v = logged_use store told told' peer serving.session t in
+    let v = logged_use store entries entries' peer serving.session t in
     let same : left.session ≡ t = left_so u.answered u.unused serving left t old new before after id now done.1 in
-    let logged : told' ≡ told_made peer t.name made told =
-    e ∙ (ap (λ (p : End). told_made p left.session.name made told) is
-    ∙ ap (λ (s : SessionView). told_made peer s.name made told) same) in (
+    let logged : entries' ≡ logged_made peer t.name made entries =
+    e ∙ (ap (λ (p : End). logged_made p left.session.name made entries) is
+    ∙ ap (λ (s : SessionView). logged_made peer s.name made entries) same) in (
       t,
       slots.slot_so u.answered v.answered u.unused v.unused (λ command reply both. (made, both, logged))
-          (λ both. (both.0, logged ∙ ap (λ (m : Option Change). told_made peer t.name m told) both.1))
-          (λ acted. DoesKept (serving_after serving t acted.answer) left old acted new before after) old (place_of id) now
+          (λ both. (both.0, logged ∙ ap (λ (m : Option Change). logged_made peer t.name m entries) both.1))
+          (λ acted. SlotDoes (serving_after serving t acted.answer) left old acted new before after) old (place_of id) now
           (named_slot old.slots id) done.1,
     )
 

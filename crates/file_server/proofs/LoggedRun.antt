@@ -13,7 +13,7 @@ use Rattle.file_server.specs.Logged.{Logged, LogsTurn}
 use Rattle.file_server.specs.LoggedRun.{LoggedService, LogsBy, LogsTurnAt, new_logged, with_log}
 use Rattle.file_server.specs.Service.{MadeTurns}
 use Rattle.file_server.specs.Waiting.{waits}
-use Rattle.file_server.specs.Watch.{Event, told_turned, watched, watched_slots}
+use Rattle.file_server.specs.Watch.{Event, logged_turned, watched, watched_slots}
 use Rattle.file_server.specs.declared.limits.TheConstants.{SERVER_CONNS, SILENT_MILLIS}
 use Rattle.file_server.proofs.Served.{HasMade}
 
@@ -22,28 +22,28 @@ module _ {S : Type 0} (changes : S → S → StoreChange) (carriage : Carriage) 
   HasLogged = HasMade (LogsTurnAt changes carriage starts)
 
   -- a turn without its link: what the turn asked, and what was logged behind it
-  pub logs_turn : {asked : List Ask → Type 0} (reported : List Ask → LinkReport → Type 0) (now start : ℕ) (by : Carriage) (told : Option (List Event))
+  pub logs_turn : {asked : List Ask → Type 0} (reported : List Ask → LinkReport → Type 0) (now start : ℕ) (by : Carriage) (entries : Option (List Event))
       (report : LinkReport) (before after : LoggedService S) (end : TurnEnd)
       → by ≡ carriage → start ≡ starts now
       → LogsTurn changes (Some SILENT_MILLIS) reported asked (waits true before.station.node.host) by start now before.station
-      (with_log told after.station) end
+      (with_log entries after.station) end
       → watched after.seen after.station.node.store.1
       ≡ watched_slots after.station.node.host after.station.node.sessions
-      (min SERVER_CONNS (length after.station.node.host.slots)) (watched before.seen (told_turned report told))
+      (min SERVER_CONNS (length after.station.node.host.slots)) (watched before.seen (logged_turned report entries))
       → (asks : List Ask) × asked asks × LogsTurnAt changes carriage starts now asks before after
-  logs_turn {asked} reported now start by told report before after end same from done looked =
+  logs_turn {asked} reported now start by entries report before after end same from done looked =
       let wait = waits true before.station.node.host in
       let made : LogsTurn changes (Some SILENT_MILLIS) reported asked wait carriage (starts now) now before.station
-      (with_log told after.station) end =
-      subst (λ (k : Carriage). LogsTurn changes (Some SILENT_MILLIS) reported asked wait k (starts now) now before.station (with_log told after.station) end)
+      (with_log entries after.station) end =
+      subst (λ (k : Carriage). LogsTurn changes (Some SILENT_MILLIS) reported asked wait k (starts now) now before.station (with_log entries after.station) end)
       same
-      (subst (λ (n : ℕ). LogsTurn changes (Some SILENT_MILLIS) reported asked wait by n now before.station (with_log told after.station) end)
+      (subst (λ (n : ℕ). LogsTurn changes (Some SILENT_MILLIS) reported asked wait by n now before.station (with_log entries after.station) end)
       from done) in (
         turn_asks carriage wait before.station.outbox.packets made.lots,
         made.link.asks,
         record {
           end = end;
-          told = told;
+          logged = entries;
           report = report;
           turn = record {
             came = made.came;

@@ -17,7 +17,7 @@ use Rattle.chaos_file.specs.ServeWork.{Work, NotOpen, Nothing, Full, LastItem, C
 use Rattle.chaos_file.specs.declared.served.Served.{Served}
 use Rattle.chaos_link.specs.declared.carriage.Carriage.{Carriage}
 use Rattle.chaos_node.specs.Link.{SendsLots, has_packets}
-use Rattle.file_server.specs.Serve.{DoesKept, IsServedAt, ServerDoes, ServesPlaceBy, ServesSlotBy, ServesSlotsBy, SessionServesBy, Use, Uses, serving_after}
+use Rattle.file_server.specs.Serve.{IsServedAt, ServerDoes, ServesPlaceBy, ServesSlotBy, ServesSlotsBy, SessionServesBy, SlotDoes, Use, Uses, serving_after}
 use Rattle.file_server.specs.Sessions.{Serving, serving_at, serving_of}
 use Rattle.chaos_node.specs.Station.{Station, station}
 use Rattle.file_server.specs.Server.{Server, server}
@@ -64,14 +64,14 @@ pub kept_so : (u : SessionView → SessionView → Use) (serving left : Serving)
     (new : HostView) (before after : OutboxView) (answer : Served)
     → left ≡ serving_after serving t answer → DoesWorkInSlotBy (u serving.session t).answered (u serving.session t).unused
     (λ acted. HostDoes old 2 acted new before after answer) old (place_of id) now (named_slot old.slots id)
-    → SessionServesBy u now id serving (λ s acted. DoesKept s left old acted new before after) old
+    → SessionServesBy u now id serving (λ s acted. SlotDoes s left old acted new before after) old
 kept_so u serving left t old id now new before after answer e done = (
   t,
   serves_so (u serving.session t).answered (u serving.session t).unused (λ acted. HostDoes old 2 acted new before after answer)
-      (λ acted. DoesKept (serving_after serving t acted.answer) left old acted new before after)
+      (λ acted. SlotDoes (serving_after serving t acted.answer) left old acted new before after)
       old (place_of id) now (named_slot old.slots id)
       (λ acted d.
-      record { kept = e ∙ ap (serving_after serving t) d.answers; does = record { view = d.view; packets = d.packets; answers = refl; few = d.few; config = d.config; size = d.size } })
+      record { session = e ∙ ap (serving_after serving t) d.answers; does = record { view = d.view; packets = d.packets; answers = refl; few = d.few; config = d.config; size = d.size } })
       done,
 )
 
@@ -106,9 +106,9 @@ become_so u now id serving P Q h f done = (
 -- serving leaves the outbox as much room in all
 pub as_much_room : (u : SessionView → SessionView → Use) (now id : ℕ) (serving left : Serving) (old new : HostView)
     (before mid : OutboxView)
-    → SessionServesBy u now id serving (λ s acted. DoesKept s left old acted new before mid) old → mid.cap ≡ before.cap
+    → SessionServesBy u now id serving (λ s acted. SlotDoes s left old acted new before mid) old → mid.cap ≡ before.cap
 as_much_room u now id serving left old new before mid done =
-    let found = found_so u now id serving (λ s acted. DoesKept s left old acted new before mid) old done in
+    let found = found_so u now id serving (λ s acted. SlotDoes s left old acted new before mid) old done in
     ap (λ (o : OutboxView). o.cap) found.3.does.packets
 
 module _ {S : Type 0} (uses : Uses S) where
@@ -121,14 +121,14 @@ module _ {S : Type 0} (uses : Uses S) where
       → SendsLots asked carriage queue (mid.packets ∷ []) after → rest ≡ record { packets = []; cap = mid.cap }
       → sent ≡ has_packets (mid.packets ∷ [])
       → SessionServesBy (uses store store' old id) now id (serving_of id now here)
-      (λ s acted. DoesKept s left old acted new before mid) old
+      (λ s acted. SlotDoes s left old acted new before mid) old
       → ServerDoes asked carriage (ServesSlotBy uses now place) (station (server old sessions store) queue before)
       (station (server new kept store') after rest) sent
   slot_so carriage here left sessions kept store store' place id now old new before mid rest queue after sent e e' set
       empty sends over told done =
       let u = uses store store' old id in
       let found =
-      found_so u now id (serving_of id now here) (λ s acted. DoesKept s left old acted new before mid) old done in
+      found_so u now id (serving_of id now here) (λ s acted. SlotDoes s left old acted new before mid) old done in
       let d = found.3 in
       let acted = found.1 in
       let packets : mid.packets ≡ acted.packets =
@@ -139,7 +139,7 @@ module _ {S : Type 0} (uses : Uses S) where
       = become_so u now id (serving_of id now here) (λ l a. (found.0 ≡ l) × (acted ≡ a)) is old
       (λ l a same. record {
         host = d.does.view ∙ ap (λ (x : HostActed Served). x.view) same.1;
-        sessions = set ∙ ap (slice_set sessions place) (d.kept ∙ same.0);
+        sessions = set ∙ ap (slice_set sessions place) (d.session ∙ same.0);
         out = ap (λ (ps : List PacketView). ps ∷ []) (packets ∙ ap (λ (x : HostActed Served). x.packets) same.1);
       }) found.2 in
       let there : SessionServesBy u now id (serving_of id now (serving_at sessions place)) is old =

@@ -17,24 +17,24 @@ use Rattle.chaos_node.specs.declared.end.TurnEnd.{TurnEnd}
 use Rattle.file_server.specs.Serve.{Use, Uses}
 use Rattle.file_server.specs.Server.{Server}
 use Rattle.file_server.specs.Turn.{IsTurnBy}
-use Rattle.file_server.specs.Watch.{Event, peer_at, told_changed, told_heard}
+use Rattle.file_server.specs.Watch.{Event, logged_changed, logged_heard, peer_at}
 
 -- a store beside what its server's log has so far
 abbrev pub Logged : Type 0 → Type 0
 Logged S = S × Option (List Event)
 
 -- a command of this peer's user changed this, or nothing
-abbrev pub told_made : End → Option (List ℕ) → Option Change → Option (List Event) → Option (List Event)
-told_made peer login None told = told
-told_made peer login (Some change) told = told_changed peer login change told
+abbrev pub logged_made : End → Option (List ℕ) → Option Change → Option (List Event) → Option (List Event)
+logged_made peer login None logged = logged
+logged_made peer login (Some change) logged = logged_changed peer login change logged
 
 -- A command of a connection: what the command changed is logged, with the connection's peer and the name that its user
 -- gave. Where no command is given, nothing is logged.
 abbrev pub logged_use : StoreChange → Option (List Event) → Option (List Event) → End → SessionView → SessionView → Use
-logged_use store told told' peer s t = record {
+logged_use store logged logged' peer s t = record {
   answered = λ command reply. (made : Option Change) × IsReported store s t made command reply
-      × (told' ≡ told_made peer t.name made told);
-  unused = IsUnused store s t × (told' ≡ told);
+      × (logged' ≡ logged_made peer t.name made logged);
+  unused = IsUnused store s t × (logged' ≡ logged);
 }
 
 -- The same where it is known what the command changed.
@@ -47,17 +47,17 @@ logged_uses changes before after h id = logged_use (changes before.0 after.0) be
 -- ---- what came
 
 -- a datagram of the host with this address came, unless the address is no host's
-abbrev pub told_host : Option ℕ → LinkReport → Option (List Event) → Option (List Event)
-told_host None report told = told
-told_host (Some address) report told = if address == 0 then told else told_heard address report told
+abbrev pub logged_host : Option ℕ → LinkReport → Option (List Event) → Option (List Event)
+logged_host None report logged = logged
+logged_host (Some address) report logged = if address == 0 then logged else logged_heard address report logged
 
 -- of a datagram that carries packets, the host of its first packet is logged
-abbrev pub told_arrival : Arrival → LinkReport → Option (List Event) → Option (List Event)
-told_arrival (Some (Ok packets)) report told = told_host (option_map (λ p. p.src) (slice_get packets 0)) report told
-told_arrival _ report told = told
+abbrev pub logged_arrival : Arrival → LinkReport → Option (List Event) → Option (List Event)
+logged_arrival (Some (Ok packets)) report logged = logged_host (option_map (λ p. p.src) (slice_get packets 0)) report logged
+logged_arrival _ report logged = logged
 
 abbrev pub after_arrival : {S : Type 0} → Arrival → LinkReport → Server (Logged S) → Server (Logged S)
-after_arrival came report s = record s { store = (s.store.0, told_arrival came report s.store.1) }
+after_arrival came report s = record s { store = (s.store.0, logged_arrival came report s.store.1) }
 
 -- Of a link that was asked just this, the log reads this report.
 abbrev pub IsReadOf : {L : Type 0} → (L → LinkReport) → (L → List Ask → Type 0) → List Ask → LinkReport → Type 0

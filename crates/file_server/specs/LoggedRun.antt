@@ -12,7 +12,7 @@ use Rattle.file_server.specs.Logged.{Logged, LogsTurn}
 use Rattle.file_server.specs.Server.{Server}
 use Rattle.file_server.specs.Service.{MadeTurns, MakesTurns, new_service}
 use Rattle.file_server.specs.Waiting.{waits}
-use Rattle.file_server.specs.Watch.{Event, told_turned, watched, watched_slots}
+use Rattle.file_server.specs.Watch.{Event, logged_turned, watched, watched_slots}
 use Rattle.file_server.specs.declared.limits.TheConstants.{SERVER_CONNS, SILENT_MILLIS}
 use Rattle.file_server.specs.declared.watch.Seen.{Seen}
 
@@ -24,7 +24,7 @@ pub record LoggedService (S : Type 0) : Type 0 where
 module _ {S : Type 0} where
   -- the same with this log
   abbrev pub with_log : Option (List Event) → Station (Server (Logged S)) → Station (Server (Logged S))
-  with_log told station = record station { node = record station.node { store = (station.node.store.0, told) } }
+  with_log logged station = record station { node = record station.node { store = (station.node.store.0, logged) } }
 
   -- one that has made no turn yet
   abbrev pub new_logged : ConfigView → ℕ → Logged S → Option QueueView → LoggedService S
@@ -38,13 +38,13 @@ module _ {S : Type 0} (changes : S → S → StoreChange) (carriage : Carriage) 
   pub record LogsTurnAt (now : ℕ) (asks : List Ask) (before after : LoggedService S) : Type 0 where
     pub end : TurnEnd
     -- what the log had behind the turn, and the report of the link then
-    pub told : Option (List Event)
+    pub logged : Option (List Event)
     pub report : LinkReport
     pub turn : LogsTurn changes (Some SILENT_MILLIS) (λ asked read. Unit {0}) (λ asked. asked ≡ asks) (waits true before.station.node.host) carriage
-        (starts now) now before.station (with_log told after.station) end
+        (starts now) now before.station (with_log logged after.station) end
     pub looked : watched after.seen after.station.node.store.1
         ≡ watched_slots after.station.node.host after.station.node.sessions
-        (min SERVER_CONNS (length after.station.node.host.slots)) (watched before.seen (told_turned report told))
+        (min SERVER_CONNS (length after.station.node.host.slots)) (watched before.seen (logged_turned report logged))
 
   -- However the run ended, as many turns were made and logged as moments were read since it began: each turn at the moment
   -- that was read for it, in the order in which they were read. Nothing else was logged.

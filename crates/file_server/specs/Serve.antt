@@ -41,9 +41,9 @@ abbrev pub SessionServes : StoreChange → ℕ → ℕ → Serving → (Serving 
 SessionServes store = SessionServesBy (plain_use store)
 
 -- A slot's session is this, and the host did that.
-pub record DoesKept (serving left : Serving) (old : HostView) (acted : HostActed Served) (new : HostView)
+pub record SlotDoes (serving left : Serving) (old : HostView) (acted : HostActed Served) (new : HostView)
     (before after : OutboxView) : Type 0 where
-  pub kept : left ≡ serving
+  pub session : left ≡ serving
   pub does : HostDoes old 2 acted new before after acted.answer
 
 module _ {S : Type 0} where

@@ -26,17 +26,17 @@ pub data Event : Type 0 where
   Heard : (address : ℕ) → (from : SocketAddrV4) → Event
   Failed : (fault : SocketFault) → Event
 
-abbrev pub told_with : Event → Option (List Event) → Option (List Event)
-told_with event told = option_map (λ events. events ++ event ∷ []) told
+abbrev pub logged_with : Event → Option (List Event) → Option (List Event)
+logged_with event logged = option_map (λ events. events ++ event ∷ []) logged
 
-abbrev pub told_opened : End → Option (List Event) → Option (List Event)
-told_opened peer told = told_with (Opened peer) told
+abbrev pub logged_opened : End → Option (List Event) → Option (List Event)
+logged_opened peer logged = logged_with (Opened peer) logged
 
-abbrev pub told_ended : End → Option (List ℕ) → Ending → Option (List Event) → Option (List Event)
-told_ended peer login ending told = told_with (Ended peer login ending) told
+abbrev pub logged_ended : End → Option (List ℕ) → Ending → Option (List Event) → Option (List Event)
+logged_ended peer login ending logged = logged_with (Ended peer login ending) logged
 
-abbrev pub told_changed : End → Option (List ℕ) → Change → Option (List Event) → Option (List Event)
-told_changed peer login change told = told_with (Changed peer login change) told
+abbrev pub logged_changed : End → Option (List ℕ) → Change → Option (List Event) → Option (List Event)
+logged_changed peer login change logged = logged_with (Changed peer login change) logged
 
 -- ---- what a link reports
 
@@ -45,16 +45,16 @@ heard_from address None = []
 heard_from address (Some from) = Heard address from ∷ []
 
 -- a datagram of this host came, where it is known from where
-abbrev pub told_heard : ℕ → LinkReport → Option (List Event) → Option (List Event)
-told_heard address report told = option_map (λ events. events ++ heard_from address report.source) told
+abbrev pub logged_heard : ℕ → LinkReport → Option (List Event) → Option (List Event)
+logged_heard address report logged = option_map (λ events. events ++ heard_from address report.source) logged
 
 abbrev pub failed_by : Option SocketFault → List Event
 failed_by None = []
 failed_by (Some fault) = Failed fault ∷ []
 
 -- a turn is over, in which a call of the link's socket failed, or none
-abbrev pub told_turned : LinkReport → Option (List Event) → Option (List Event)
-told_turned report told = option_map (λ events. events ++ failed_by report.fault) told
+abbrev pub logged_turned : LinkReport → Option (List Event) → Option (List Event)
+logged_turned report logged = option_map (λ events. events ++ failed_by report.fault) logged
 
 -- ---- one look
 
@@ -105,12 +105,12 @@ abbrev pub ending_in : Seen → Serving → Ending
 ending_in was serving = ending_of was.is_down serving.eof was.is_unacknowledged
 
 abbrev pub after_end : Option Seen → Serving → Option (List Event) → Option (List Event)
-after_end None serving told = told
-after_end (Some was) serving told = told_ended was.peer serving.session.name (ending_in was serving) told
+after_end None serving logged = logged
+after_end (Some was) serving logged = logged_ended was.peer serving.session.name (ending_in was serving) logged
 
 abbrev pub after_opening : Option Seen → Option (List Event) → Option (List Event)
-after_opening None told = told
-after_opening (Some there) told = told_opened there.peer told
+after_opening None logged = logged
+after_opening (Some there) logged = logged_opened there.peer logged
 
 abbrev pub is_same : Option Seen → Option Seen → Bool
 is_same None None = true
@@ -118,23 +118,23 @@ is_same (Some was) (Some there) = was.id == there.id
 is_same _ _ = false
 
 abbrev pub after_change : Option Seen → Option Seen → Serving → Option (List Event) → Option (List Event)
-after_change was there serving told =
-    if is_same was there then told else after_opening there (after_end was serving told)
+after_change was there serving logged =
+    if is_same was there then logged else after_opening there (after_end was serving logged)
 
 -- ---- a look at each slot
 
 -- what was seen in each slot, and what was logged
 pub record Watched : Type 0 where
   pub seen : List (Option Seen)
-  pub told : Option (List Event)
+  pub logged : Option (List Event)
 
 abbrev pub watched : List (Option Seen) → Option (List Event) → Watched
-watched seen told = record { seen = seen; told = told }
+watched seen logged = record { seen = seen; logged = logged }
 
 abbrev pub watched_at : HostView → List Serving → ℕ → Watched → Watched
 watched_at h sessions place w = record {
   seen = slice_set w.seen place (seen_at h place);
-  told = after_change (slice_index_or w.seen place None) (seen_at h place) (serving_at sessions place) w.told;
+  logged = after_change (slice_index_or w.seen place None) (seen_at h place) (serving_at sessions place) w.logged;
 }
 
 -- the first so many slots, in rising order

@@ -21,8 +21,8 @@ mod serve_run;
 mod server;
 mod serving;
 mod sessions;
-mod terms;
 mod turn;
+mod turn_input;
 mod waiting;
 mod watch;
 

@@ -1,7 +1,7 @@
 //! The log of a server's connections, of what their commands changed, and of what its link reports.
 ghost use Rattle.std.specs.Prelude.{◌≡◌, List, Option, option_map};
 ghost use Rattle.chaos_link.specs.declared.report.LinkReport.{LinkReport};
-ghost use Rattle.file_server.specs.Watch.{Event, told_changed, told_ended, told_heard, told_opened, told_turned};
+ghost use Rattle.file_server.specs.Watch.{Event, logged_changed, logged_ended, logged_heard, logged_opened, logged_turned};
 
 use chaos_conn::End;
 use chaos_file::{Cause, Change};
@@ -24,20 +24,20 @@ pub enum Ending {
 /// changed.
 pub trait Log {
     /// The openings, the ends and the changes so far, in order. `None` for a log that promises nothing.
-    ghost told: { Self → Option (List Event) };
+    ghost logged: { Self → Option (List Event) };
 
     /// The connection that this peer asked for has opened.
     fn opened(&mut self, peer: End)
         // The log holds the opening, with its peer, behind all that it held before.
-        ensures { told self.new ≡ told_opened peer (told self.old) };
+        ensures { logged self.new ≡ logged_opened peer (logged self.old) };
 
     /// The connection to this peer has ended. `login` is the name that its user gave, if any, and
     /// `commands` is how many commands were replied to.
     fn ended(&mut self, peer: End, login: Option<&[u8]>, commands: u64, ending: Ending)
         // The log holds the end behind all that it held before: the peer, the name that its user
         // gave, and why the connection ended.
-        ensures { told self.new
-            ≡ told_ended peer (option_map (λ name. name.now) login.entry) ending (told self.old) };
+        ensures { logged self.new
+            ≡ logged_ended peer (option_map (λ name. name.now) login.entry) ending (logged self.old) };
 
     /// A command of the connection to this peer changed this, or was refused. `login` is the name
     /// that the connection's user gave, if any. `cause` is why the store failed, where it did and
@@ -51,9 +51,9 @@ pub trait Log {
     )
         // The log holds the change behind all that it held before: the peer, the name that its user
         // gave, and what was changed.
-        ensures { told self.new
-            ≡ told_changed peer (option_map (λ name. name.now) login.entry) change.now
-            (told self.old) };
+        ensures { logged self.new
+            ≡ logged_changed peer (option_map (λ name. name.now) login.entry) change.now
+            (logged self.old) };
 }
 
 /// A log that also gets what a server's link reports.
@@ -65,13 +65,13 @@ pub trait LinkLog<L>: Log {
     fn heard(&mut self, link: &L, address: u16)
         // The log holds the host, and from where its datagram came by the link's report, behind all
         // that it held before. It holds nothing more where the report has no source.
-        ensures { Self.told self.new
-            ≡ told_heard address (reads link.now) (Self.told self.old) };
+        ensures { Self.logged self.new
+            ≡ logged_heard address (reads link.now) (Self.logged self.old) };
 
     /// A turn over the link is over.
     fn turned(&mut self, link: &L)
         // The log holds the fault that the link reports, if any, behind all that it held before.
-        ensures { Self.told self.new ≡ told_turned (reads link.now) (Self.told self.old) };
+        ensures { Self.logged self.new ≡ logged_turned (reads link.now) (Self.logged self.old) };
 }
 
 /// A log that keeps nothing, and promises nothing.
@@ -81,7 +81,7 @@ pub struct Silent;
 impl Log for Silent {
     ghost use Rattle.std.specs.Prelude.{None};
 
-    ghost told = { λ _. None };
+    ghost logged = { λ _. None };
 
     fn opened(&mut self, peer: End) {}
 

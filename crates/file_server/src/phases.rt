@@ -10,7 +10,7 @@ use crate::ending::end_slots;
 use crate::log::Log;
 use crate::serving::serve_slots;
 use crate::sessions::Sessions;
-use crate::terms::Terms;
+use crate::turn_input::TurnInput;
 use chaos_file::Store;
 use chaos_link::{Link, LinkFault, Packets};
 use chaos_node::{Turn, any_of};
@@ -21,18 +21,18 @@ pub(crate) fn take_turn<S: Store, L: Link, G: Log>(
     sessions: &mut Sessions,
     store: &mut S,
     came: Option<Result<Packets<'_>, LinkFault>>,
-    terms: &Terms,
+    input: &TurnInput,
     log: &mut G,
 ) -> bool
     requires alike { length sessions.old ≡ length turn.old.host.now.slots }
     ensures { ServerTurnDoes turn.old turn.new
-        (IsTurnBy (logged_uses (change S.contents S.may_give S.count)) terms.now.silence came.entry
-        terms.now.start turn.old.now) sessions.old sessions.new (store.old, G.told log.old)
-        (store.new, G.told log.new) result }
+        (IsTurnBy (logged_uses (change S.contents S.may_give S.count)) input.now.silence came.entry
+        input.now.start turn.old.now) sessions.old sessions.new (store.old, G.logged log.old)
+        (store.new, G.logged log.new) result }
 {
-    let arrived = arrive_at_server(turn, came, terms.start);
-    let served = serve_slots(turn, sessions, store, terms.alloc, log);
-    let ended = end_slots(turn, sessions, terms.silence);
+    let arrived = arrive_at_server(turn, came, input.start);
+    let served = serve_slots(turn, sessions, store, input.alloc, log);
+    let ended = end_slots(turn, sessions, input.silence);
     sessions.give_back(turn.host);
     any_of(arrived, served, ended)
 }

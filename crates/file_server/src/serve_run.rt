@@ -75,7 +75,7 @@ pub fn run_serve_by<M: Moments, L: Link, S: Store, G: LinkLog<L>>(
     ensures logs { LogsBy (change S.contents S.may_give S.count) options.carriage
         (M.starts (M.time moments.old)) (Reads (M.read moments.old) (M.read moments.new))
         (Asks (L.asked link.old) (L.asked link.new)) options.config options.turns options.me
-        (store.old, G.told log.old) (store.new, G.told log.new) (L.queue link.old)
+        (store.old, G.logged log.old) (store.new, G.logged log.new) (L.queue link.old)
         (L.queue link.new) result }
     // The run ends well only if the link's count of failures didn't rise. It ends by `Link`
     // only if failures were counted.

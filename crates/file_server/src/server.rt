@@ -5,7 +5,7 @@ use crate::limits::{SERVER_CONNS, SILENT_MILLIS};
 use crate::log::{LinkLog, Log};
 use crate::phases::take_turn;
 use crate::sessions::Sessions;
-use crate::terms::Terms;
+use crate::turn_input::TurnInput;
 use crate::waiting::waits;
 use crate::watch::Watch;
 use chaos_conn::ConnConfig;
@@ -120,8 +120,8 @@ impl Server {
             (IsReadOf G.reads (λ at. Asks (L.asked link.old) (L.asked at)))
             (Asks (L.asked link.old) (L.asked link.new)) (waits may_wait self.old.node.host)
             self.old.node.carriage start now
-            (service_of self.old (store.old, G.told log.old) (L.queue link.old))
-            (service_of self.new (store.new, G.told log.new) (L.queue link.new)) result }
+            (service_of self.old (store.old, G.logged log.old) (L.queue link.old))
+            (service_of self.new (store.new, G.logged log.new) (L.queue link.new)) result }
         // The server keeps its carriage.
         ensures carriage { self.new.node.carriage ≡ self.old.node.carriage }
     {
@@ -143,7 +143,7 @@ impl Server {
             carriage,
             now,
         };
-        let terms = Terms {
+        let input = TurnInput {
             alloc: self.alloc,
             start,
             silence: Some(SILENT_MILLIS),
@@ -153,7 +153,7 @@ impl Server {
             &mut self.sessions,
             store,
             begun.came,
-            &terms,
+            &input,
             log,
         );
         end_of(begun.failures, turn.link.failures(), begun.worked, sent)
@@ -161,10 +161,10 @@ impl Server {
 
     /// Looks at each slot, and logs the connections that opened and ended since the last look.
     pub(crate) fn watch<G: Log>(&self, watch: &mut Watch, log: &mut G)
-        ensures { watched watch.new.seen (G.told log.new)
+        ensures { watched watch.new.seen (G.logged log.new)
             ≡ watched_slots self.now.node.host self.now.sessions
             (min SERVER_CONNS (length self.now.node.host.slots))
-            (watched watch.old.seen (G.told log.old)) }
+            (watched watch.old.seen (G.logged log.old)) }
     {
         for place in 0..SERVER_CONNS.min(self.node.host.conns()) {
             watch.look(&self.node.host, &self.sessions, place, log);

@@ -6,7 +6,7 @@ ghost use Rattle.file_server.specs.Logged.{logged_uses};
 ghost use Rattle.file_server.specs.Serve.{ServesSlotBy, ServesSlotsBy};
 
 use crate::log::Log;
-use crate::sessions::{Kept, Sessions};
+use crate::sessions::{Sessions, SlotSession};
 use crate::watch::peer_of;
 use chaos_file::{ServeAt, Store, can_serve_conn};
 use chaos_host::ConnId;
@@ -26,8 +26,8 @@ pub fn serve_slots<S: Store, L: Link, G: Log>(
     requires alike { length sessions.old ≡ length turn.old.host.now.slots }
     ensures { ServerTurnDoes turn.old turn.new
         (ServesSlotsBy (logged_uses (change S.contents S.may_give S.count)) turn.old.now
-        (length turn.old.host.now.slots)) sessions.old sessions.new (store.old, G.told log.old)
-        (store.new, G.told log.new) result }
+        (length turn.old.host.now.slots)) sessions.old sessions.new (store.old, G.logged log.old)
+        (store.new, G.logged log.new) result }
 {
     let mut sent = false;
     let mut from = 0;
@@ -48,24 +48,24 @@ pub fn serve_slots<S: Store, L: Link, G: Log>(
 /// changed. Says whether packets went out.
 fn serve_slot<S: Store, L: Link, G: Log>(
     turn: &mut Turn<'_, L>,
-    kept: &mut Kept,
+    slot_session: &mut SlotSession,
     id: ConnId,
     store: &mut S,
     alloc: Global,
     log: &mut G,
 ) -> bool
     ensures { SlotTurnDoes turn.old turn.new
-        (ServesSlotBy (logged_uses (change S.contents S.may_give S.count)) turn.old.now) id kept.old
-        kept.new (store.old, G.told log.old) (store.new, G.told log.new) result }
+        (ServesSlotBy (logged_uses (change S.contents S.may_give S.count)) turn.old.now) id slot_session.old
+        slot_session.new (store.old, G.logged log.old) (store.new, G.logged log.new) result }
 {
     let at = ServeAt {
         alloc,
         moment: turn.now,
     };
     let peer = peer_of(turn.host, id);
-    let made = kept.serve(turn.host, id, store, turn.out, &at);
+    let made = slot_session.serve(turn.host, id, store, turn.out, &at);
     if let Some(change) = &made {
-        log.changed(peer, kept.session.name(), change, store.cause());
+        log.changed(peer, slot_session.session.name(), change, store.cause());
     }
     send_all(turn.link, turn.out, turn.carriage)
 }

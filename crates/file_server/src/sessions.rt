@@ -4,7 +4,7 @@ ghost use Rattle.chaos_packet.specs.Outbox.{room_of};
 ghost use Rattle.chaos_host.specs.View.{id_at};
 ghost use Rattle.chaos_file.specs.Store.{change};
 ghost use Rattle.file_server.specs.Logged.{report_use};
-ghost use Rattle.file_server.specs.Serve.{DoesKept, SessionServesBy};
+ghost use Rattle.file_server.specs.Serve.{SessionServesBy, SlotDoes};
 ghost use Rattle.file_server.specs.Sessions.{Serving, first_serving, new_serving, serving_at, serving_of, without_files};
 ghost use Rattle.file_server.specs.Slots.{given_back, given_back_at};
 
@@ -17,7 +17,7 @@ use std::marker::Model;
 /// A slot's session, the connection that it serves, whether that connection's EOF was served, and
 /// since when it is served.
 #[derive(Drop)]
-pub(crate) struct Kept {
+pub(crate) struct SlotSession {
     pub(crate) id: Option<ConnId>,
     pub(crate) eof: bool,
     /// The moment at which the connection was served first.
@@ -31,7 +31,7 @@ pub(crate) struct Kept {
     ghost bare: { may_hold ≡ false → session.value.handles ≡ [] },
 }
 
-impl Model for Kept {
+impl Model for SlotSession {
     ghost use Rattle.file_server.specs.Sessions.{Serving};
 
     ghost Value = { Serving };
@@ -47,7 +47,7 @@ impl Model for Kept {
 /// session back where its connection has ended.
 #[derive(Drop)]
 pub struct Sessions {
-    pub(crate) kept: Vec<Kept>,
+    pub(crate) kept: Vec<SlotSession>,
 }
 
 impl Model for Sessions {
@@ -71,7 +71,7 @@ impl Sessions {
     {
         let mut kept = Vec::with_capacity(alloc, conns)?;
         for i in 0..conns {
-            kept.push(Kept::new(alloc)?)?;
+            kept.push(SlotSession::new(alloc)?)?;
         }
         Ok(Sessions { kept })
     }
@@ -156,12 +156,12 @@ impl Sessions {
     }
 }
 
-impl Kept {
+impl SlotSession {
     /// A new session, which serves no connection yet.
     fn new(alloc: Global) -> Result<Self, AllocError>
-        ensures { IfOk result (λ kept. kept ≡ new_serving) }
+        ensures { IfOk result (λ session. session ≡ new_serving) }
     {
-        Ok(Kept {
+        Ok(SlotSession {
             id: None,
             eof: false,
             since: 0,
@@ -197,7 +197,7 @@ impl Kept {
         ensures { SessionServesBy
             (report_use (change S.contents S.may_give S.count store.old store.new) result)
             at.now.moment id (serving_of id at.now.moment self.old)
-            (λ serving acted. DoesKept serving self.new host.old acted host.new out.old out.new)
+            (λ serving acted. SlotDoes serving self.new host.old acted host.new out.old out.new)
             host.old }
     {
         if self.id != Some(id) {

@@ -13,7 +13,7 @@ ghost use Rattle.file_server.specs.Turn.{RunsTurn};
 use crate::log::Silent;
 use crate::phases::take_turn;
 use crate::sessions::Sessions;
-use crate::terms::Terms;
+use crate::turn_input::TurnInput;
 use chaos_file::Store;
 use chaos_host::Host;
 use chaos_link::{Carriage, LINK_ROOM, Link};
@@ -97,11 +97,11 @@ pub fn run_turn<S: Store, L: Link>(
         carriage,
         now,
     };
-    let terms = Terms {
+    let input = TurnInput {
         alloc,
         start,
         silence: None,
     };
-    let sent = take_turn(&mut turn, sessions, store, begun.came, &terms, &mut Silent);
+    let sent = take_turn(&mut turn, sessions, store, begun.came, &input, &mut Silent);
     end_of(begun.failures, turn.link.failures(), begun.worked, sent)
 }

@@ -42,8 +42,8 @@ impl Watch {
     pub fn look<G: Log>(&mut self, host: &Host, sessions: &Sessions, place: usize, log: &mut G)
         requires slot { place < SERVER_CONNS }
         requires session { place < length sessions.now }
-        ensures { watched self.new.seen (G.told log.new)
-            ≡ watched_at host.now sessions.now place (watched self.old.seen (G.told log.old)) }
+        ensures { watched self.new.seen (G.logged log.new)
+            ≡ watched_at host.now sessions.now place (watched self.old.seen (G.logged log.old)) }
     {
         let there = seen_at(host, place);
         log_change(&self.seen[place], &there, sessions, place, log);
@@ -133,8 +133,8 @@ fn log_change<G: Log>(
     log: &mut G,
 )
     requires { place < length sessions.now }
-    ensures { G.told log.new
-        ≡ after_change was.now there.now (serving_at sessions.now place) (G.told log.old) }
+    ensures { G.logged log.new
+        ≡ after_change was.now there.now (serving_at sessions.now place) (G.logged log.old) }
 {
     if is_same(was, there) {
         return;

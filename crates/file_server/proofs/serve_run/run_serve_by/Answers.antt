@@ -79,14 +79,14 @@ loop-turn-preserved g c = record {
       (g.L.Link.asked c.turn-end.new.link) c.loop-turn.turn c.in_ok-now.now _ _
       (record {
         station =
-            service_of c.turn-end.new.self (c.turn-end.new.store, g.G.Log.told c.watch.new.log)
+            service_of c.turn-end.new.self (c.turn-end.new.store, g.G.Log.logged c.watch.new.log)
             (g.L.Link.queue c.turn-end.new.link);
         seen = c.watch.new.watch.seen;
       })
       c.loop-turn.invariant.logged c.in_ok-now.ensures.reads
       (logs_turn (change g.S.Store.contents g.S.Store.may_give g.S.Store.count) c.args.options.carriage
       (g.M.Moments.starts (g.M.Moments.time c.args.moments.now)) {asked = Asks (g.L.Link.asked c.loop-turn.link) (g.L.Link.asked c.turn-end.new.link)}
-      (IsReadOf g.G.LinkLog.reads (λ l. Asks (g.L.Link.asked c.loop-turn.link) (g.L.Link.asked l))) c.in_ok-now.now c.start.result c.loop-turn.server.node.carriage (g.G.Log.told c.turn-end.new.log)
+      (IsReadOf g.G.LinkLog.reads (λ l. Asks (g.L.Link.asked c.loop-turn.link) (g.L.Link.asked l))) c.in_ok-now.now c.start.result c.loop-turn.server.node.carriage (g.G.Log.logged c.turn-end.new.log)
       (g.G.LinkLog.reads c.turn-end.new.link) _ _ c.turn-end.result c.loop-turn.invariant.carriage
       (c.start.ensures ∙ ap (λ t. g.M.Moments.starts t c.in_ok-now.now)
       (c.next.ensures.same_time ∙ c.loop-turn.invariant.time))
@@ -115,8 +115,8 @@ returns-in_err-server-clause-logs g c =
     logged_by changes c.args.options.carriage (g.M.Moments.starts (g.M.Moments.time c.args.moments.now))
     (Reads (g.M.Moments.read c.args.moments.now) (g.M.Moments.read c.args.moments.now))
     (Asks (g.L.Link.asked c.args.link.now) (g.L.Link.asked c.args.link.now)) c.args.options.config
-    c.args.options.turns c.args.options.me 0 (c.args.store.now, g.G.Log.told c.args.log.now) (g.L.Link.queue c.args.link.now)
-    (new_logged c.args.options.config c.args.options.me (c.args.store.now, g.G.Log.told c.args.log.now) (g.L.Link.queue c.args.link.now))
+    c.args.options.turns c.args.options.me 0 (c.args.store.now, g.G.Log.logged c.args.log.now) (g.L.Link.queue c.args.link.now)
+    (new_logged c.args.options.config c.args.options.me (c.args.store.now, g.G.Log.logged c.args.log.now) (g.L.Link.queue c.args.link.now))
     c.from_residual.result (made_none _ (g.M.Moments.read c.args.moments.now) (g.L.Link.asked c.args.link.now) _ _ refl)
     (made_to_fault c.from_residual.result c.args.options.turns 0 c.from_residual.ensures.0 (omega arith))
 
@@ -126,11 +126,11 @@ returns-in_err-now-clause-logs g c =
     logged_by changes c.args.options.carriage (g.M.Moments.starts (g.M.Moments.time c.args.moments.now))
     (Reads (g.M.Moments.read c.args.moments.now) (g.M.Moments.read c.next.new.self))
     (Asks (g.L.Link.asked c.args.link.now) (g.L.Link.asked c.loop-turn.link)) c.args.options.config
-    c.args.options.turns c.args.options.me c.loop-turn.turn (c.args.store.now, g.G.Log.told c.args.log.now)
+    c.args.options.turns c.args.options.me c.loop-turn.turn (c.args.store.now, g.G.Log.logged c.args.log.now)
     (g.L.Link.queue c.args.link.now)
     (record {
       station =
-          service_of c.loop-turn.server (c.loop-turn.store, g.G.Log.told c.loop-turn.log) (g.L.Link.queue c.loop-turn.link);
+          service_of c.loop-turn.server (c.loop-turn.store, g.G.Log.logged c.loop-turn.log) (g.L.Link.queue c.loop-turn.link);
       seen = c.loop-turn.watch.seen;
     })
     c.from_residual-in_err-now.result
@@ -145,21 +145,21 @@ returns-then-eq-clause-logs g c =
     logged_by changes c.args.options.carriage (g.M.Moments.starts (g.M.Moments.time c.args.moments.now))
     {A = Unit {0}} (Reads (g.M.Moments.read c.args.moments.now) (g.M.Moments.read c.next.new.self))
     (Asks (g.L.Link.asked c.args.link.now) (g.L.Link.asked c.turn-end.new.link)) c.args.options.config
-    c.args.options.turns c.args.options.me (c.loop-turn.turn + 1) (c.args.store.now, g.G.Log.told c.args.log.now)
+    c.args.options.turns c.args.options.me (c.loop-turn.turn + 1) (c.args.store.now, g.G.Log.logged c.args.log.now)
     (g.L.Link.queue c.args.link.now) _ (Err Link)
     (made_next _ (g.M.Moments.read c.args.moments.now) (g.M.Moments.read c.loop-turn.moments)
     (g.M.Moments.read c.next.new.self) (g.L.Link.asked c.args.link.now) (g.L.Link.asked c.loop-turn.link)
     (g.L.Link.asked c.turn-end.new.link) c.loop-turn.turn c.in_ok-now.now _ _
     (record {
       station =
-          service_of c.turn-end.new.self (c.turn-end.new.store, g.G.Log.told c.watch.new.log)
+          service_of c.turn-end.new.self (c.turn-end.new.store, g.G.Log.logged c.watch.new.log)
           (g.L.Link.queue c.turn-end.new.link);
       seen = c.watch.new.watch.seen;
     })
     c.loop-turn.invariant.logged c.in_ok-now.ensures.reads
     (logs_turn (change g.S.Store.contents g.S.Store.may_give g.S.Store.count) c.args.options.carriage
     (g.M.Moments.starts (g.M.Moments.time c.args.moments.now)) {asked = Asks (g.L.Link.asked c.loop-turn.link) (g.L.Link.asked c.turn-end.new.link)}
-    (IsReadOf g.G.LinkLog.reads (λ l. Asks (g.L.Link.asked c.loop-turn.link) (g.L.Link.asked l))) c.in_ok-now.now c.start.result c.loop-turn.server.node.carriage (g.G.Log.told c.turn-end.new.log)
+    (IsReadOf g.G.LinkLog.reads (λ l. Asks (g.L.Link.asked c.loop-turn.link) (g.L.Link.asked l))) c.in_ok-now.now c.start.result c.loop-turn.server.node.carriage (g.G.Log.logged c.turn-end.new.log)
     (g.G.LinkLog.reads c.turn-end.new.link) _ _ c.turn-end.result c.loop-turn.invariant.carriage
     (c.start.ensures ∙ ap (λ t. g.M.Moments.starts t c.in_ok-now.now)
     (c.next.ensures.same_time ∙ c.loop-turn.invariant.time))
@@ -178,11 +178,11 @@ returns-clause-logs g c =
     (g.M.Moments.starts (g.M.Moments.time c.args.moments.now))
     (Reads (g.M.Moments.read c.args.moments.now) (g.M.Moments.read c.loop-turn.moments))
     (Asks (g.L.Link.asked c.args.link.now) (g.L.Link.asked c.loop-turn.link)) c.args.options.config
-    c.args.options.turns c.args.options.me c.loop-turn.turn (c.args.store.now, g.G.Log.told c.args.log.now)
+    c.args.options.turns c.args.options.me c.loop-turn.turn (c.args.store.now, g.G.Log.logged c.args.log.now)
     (g.L.Link.queue c.args.link.now)
     (record {
       station =
-          service_of c.loop-turn.server (c.loop-turn.store, g.G.Log.told c.loop-turn.log) (g.L.Link.queue c.loop-turn.link);
+          service_of c.loop-turn.server (c.loop-turn.store, g.G.Log.logged c.loop-turn.log) (g.L.Link.queue c.loop-turn.link);
       seen = c.loop-turn.watch.seen;
     })
     (Ok (tt {0})) c.loop-turn.invariant.logged all

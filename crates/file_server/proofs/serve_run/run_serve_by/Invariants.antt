@@ -24,9 +24,9 @@ invariant-loop-turn g l = record {
       (g.M.Moments.starts (g.M.Moments.time l.fn.moments))
       (Reads (g.M.Moments.read l.fn.moments) (g.M.Moments.read l.moments))
       (Asks (g.L.Link.asked l.fn.link) (g.L.Link.asked l.link)) l.turn
-      (new_logged l.fn.options.config l.fn.options.me (l.fn.store, g.G.Log.told l.fn.log) (g.L.Link.queue l.fn.link))
+      (new_logged l.fn.options.config l.fn.options.me (l.fn.store, g.G.Log.logged l.fn.log) (g.L.Link.queue l.fn.link))
       (record {
-        station = service_of l.server (l.store, g.G.Log.told l.log) (g.L.Link.queue l.link);
+        station = service_of l.server (l.store, g.G.Log.logged l.log) (g.L.Link.queue l.link);
         seen = l.watch.seen;
       });
 }

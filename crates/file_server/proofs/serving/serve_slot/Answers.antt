@@ -2,7 +2,7 @@ use Rattle.std.proofs.Common.{◌≡◌, ◌≤◌, ℕ, refl, ap, sym, subst, �
 use Rattle.chaos_packet.specs.Outbox.{OutboxView}
 use Rattle.chaos_node.specs.declared.limits.TheConstants.{TURN_ROOM}
 use Rattle.chaos_file.specs.Store.{change}
-use Rattle.file_server.specs.Logged.{logged_uses, report_use, told_made}
+use Rattle.file_server.specs.Logged.{logged_made, logged_uses, report_use}
 use Rattle.file_server.proofs.Logged.{logged_so}
 use Rattle.file_server.proofs.Relation.{as_much_room, slot_so}
 use Rattle.file_server.proofs.serving.serve_slot.Goals as goal
@@ -26,18 +26,18 @@ pub returns : goal.returns
 returns g c place sessions there here =
     let turn = c.args.turn.now in
     let done = c.serve-made in
-    let told = g.G.Log.told c.args.log.now in
-    let told' = g.G.Log.told c.match-made.log in
-    let logged : told' ≡ told_made c.peer_of-peer.result done.new.self.session.name done.result told =
+    let entries = g.G.Log.logged c.args.log.now in
+    let entries' = g.G.Log.logged c.match-made.log in
+    let logged : entries' ≡ logged_made c.peer_of-peer.result done.new.self.session.name done.result entries =
     elim c.match-made.branch [ in-Some w ↦ search rules | in_default w ↦ search rules ] in (
-      slot_so (logged_uses (change g.S.Store.contents g.S.Store.may_give g.S.Store.count)) turn.carriage c.args.kept.now
-          done.new.self sessions _ (c.args.store.now, told) (done.new.store, told') place _ turn.now turn.host.now
+      slot_so (logged_uses (change g.S.Store.contents g.S.Store.may_give g.S.Store.count)) turn.carriage c.args.slot_session.now
+          done.new.self sessions _ (c.args.store.now, entries) (done.new.store, entries') place _ turn.now turn.host.now
           done.new.host turn.out.now done.new.out c.send_all.new.out
           (g.L.Link.queue turn.link.now) (g.L.Link.queue c.send_all.new.link) c.send_all.result
           there here refl turn.empty
           c.send_all.ensures.sends c.send_all.ensures.empty c.send_all.ensures.told
           (logged_so (change g.S.Store.contents g.S.Store.may_give g.S.Store.count c.args.store.now done.new.store)
-          told told' c.peer_of-peer.result _ done.result turn.now _ _ done.new.self turn.host.now done.new.host
+          entries entries' c.peer_of-peer.result _ done.result turn.now _ _ done.new.self turn.host.now done.new.host
           turn.out.now done.new.out c.peer_of-peer.ensures logged done.ensures),
       (refl, refl, refl, refl, refl),
     )

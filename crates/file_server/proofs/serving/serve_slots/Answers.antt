@@ -13,7 +13,7 @@ slots-init g c = record {
   done =
       rw c.sessions.view_is
       (none_served (logged_uses (change g.S.Store.contents g.S.Store.may_give g.S.Store.count)) c.args.turn.now
-      c.args.sessions.now (c.args.store.now, g.G.Log.told c.args.log.now));
+      c.args.sessions.now (c.args.store.now, g.G.Log.logged c.args.log.now));
 }
 
 pub index-requires : goal.index-requires
@@ -36,7 +36,7 @@ pub slots-preserved-then-eq : goal.slots-preserved-then-eq
 slots-preserved-then-eq g c =
     let uses = logged_uses (change g.S.Store.contents g.S.Store.may_give g.S.Store.count) in
     let turn = c.args.turn.now in
-    let told = g.G.Log.told in
+    let entries = g.G.Log.logged in
     let place = c.in-Some.at.0 in
     let next = c.in-Some.ensures.next in
     let kept = c.slots.sessions-inside.kept.items in
@@ -51,9 +51,9 @@ slots-preserved-then-eq g c =
       done =
           rw (add-one place)
           (none_to_serve uses turn c.slots.turn place c.in-Some.at.1 c.in-Some.at.2.now here c.args.sessions.now kept
-          (c.args.store.now, told c.args.log.now) (c.slots.store, told c.slots.log) c.slots.sent
+          (c.args.store.now, entries c.args.log.now) (c.slots.store, entries c.slots.log) c.slots.sent
           (served_to uses turn c.slots.turn c.slots.from place c.args.sessions.now kept
-          (c.args.store.now, told c.args.log.now) (c.slots.store, told c.slots.log) c.slots.sent next.behind next.free
+          (c.args.store.now, entries c.args.log.now) (c.slots.store, entries c.slots.log) c.slots.sent next.behind next.free
           c.slots.invariant.done)
           c.in-Some.ensures.index (get_or_read kept place here inside c.index.ensures new_serving)
           serves c.in-Some.ensures.named
@@ -64,7 +64,7 @@ pub slots-preserved-then-serve_slot : goal.slots-preserved-then-serve_slot
 slots-preserved-then-serve_slot g c =
     let uses = logged_uses (change g.S.Store.contents g.S.Store.may_give g.S.Store.count) in
     let turn = c.args.turn.now in
-    let told = g.G.Log.told in
+    let entries = g.G.Log.logged in
     let served = c.serve_slot in
     let place = c.in-Some.at.0 in
     let next = c.in-Some.ensures.next in
@@ -78,10 +78,10 @@ slots-preserved-then-serve_slot g c =
       done =
           rw (add-one place)
           (one_served uses turn c.slots.turn served.new.turn place c.args.sessions.now kept
-          (slice_set kept place served.new.kept) (c.args.store.now, told c.args.log.now) (c.slots.store, told c.slots.log)
-          (served.new.store, told served.new.log) c.slots.sent served.result served.result
+          (slice_set kept place served.new.slot_session) (c.args.store.now, entries c.args.log.now) (c.slots.store, entries c.slots.log)
+          (served.new.store, entries served.new.log) c.slots.sent served.result served.result
           (served_to uses turn c.slots.turn c.slots.from place c.args.sessions.now kept
-          (c.args.store.now, told c.args.log.now) (c.slots.store, told c.slots.log) c.slots.sent next.behind next.free
+          (c.args.store.now, entries c.args.log.now) (c.slots.store, entries c.slots.log) c.slots.sent next.behind next.free
           c.slots.invariant.done)
           (served.ensures place kept c.in-Some.ensures.index
           (get_or_read kept place c.index_mut.result.now inside c.index_mut.ensures.value new_serving))
@@ -92,7 +92,7 @@ pub slots-preserved : goal.slots-preserved
 slots-preserved g c =
     let uses = logged_uses (change g.S.Store.contents g.S.Store.may_give g.S.Store.count) in
     let turn = c.args.turn.now in
-    let told = g.G.Log.told in
+    let entries = g.G.Log.logged in
     let served = c.serve_slot in
     let place = c.in-Some.at.0 in
     let next = c.in-Some.ensures.next in
@@ -106,10 +106,10 @@ slots-preserved g c =
       done =
           rw (add-one place)
           (one_served uses turn c.slots.turn served.new.turn place c.args.sessions.now kept
-          (slice_set kept place served.new.kept) (c.args.store.now, told c.args.log.now) (c.slots.store, told c.slots.log)
-          (served.new.store, told served.new.log) c.slots.sent served.result c.slots.sent
+          (slice_set kept place served.new.slot_session) (c.args.store.now, entries c.args.log.now) (c.slots.store, entries c.slots.log)
+          (served.new.store, entries served.new.log) c.slots.sent served.result c.slots.sent
           (served_to uses turn c.slots.turn c.slots.from place c.args.sessions.now kept
-          (c.args.store.now, told c.args.log.now) (c.slots.store, told c.slots.log) c.slots.sent next.behind next.free
+          (c.args.store.now, entries c.args.log.now) (c.slots.store, entries c.slots.log) c.slots.sent next.behind next.free
           c.slots.invariant.done)
           (served.ensures place kept c.in-Some.ensures.index
           (get_or_read kept place c.index_mut.result.now inside c.index_mut.ensures.value new_serving))
@@ -118,8 +118,8 @@ slots-preserved g c =
 
 pub returns : goal.returns
 returns g c =
-    let told = g.G.Log.told in
+    let entries = g.G.Log.logged in
     served_to (logged_uses (change g.S.Store.contents g.S.Store.may_give g.S.Store.count)) c.args.turn.now c.slots.turn
     c.slots.from (length c.args.turn.now.host.now.slots) c.args.sessions.now c.slots.sessions-inside.kept.items
-    (c.args.store.now, told c.args.log.now) (c.slots.store, told c.slots.log) c.slots.sent c.slots.invariant.within
+    (c.args.store.now, entries c.args.log.now) (c.slots.store, entries c.slots.log) c.slots.sent c.slots.invariant.within
     (λ k behind below. c.in_default.ensures.next k behind) c.slots.invariant.done

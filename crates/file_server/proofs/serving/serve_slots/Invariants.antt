@@ -11,7 +11,7 @@ invariant-slots g l = record {
   done :
       ServerTurnDoes l.fn.turn l.turn
       (ServesSlotsBy (logged_uses (change g.S.Store.contents g.S.Store.may_give g.S.Store.count)) l.fn.turn.now l.from)
-      l.fn.sessions l.sessions-inside.kept.items (l.fn.store, g.G.Log.told l.fn.log) (l.store, g.G.Log.told l.log) l.sent;
+      l.fn.sessions l.sessions-inside.kept.items (l.fn.store, g.G.Log.logged l.fn.log) (l.store, g.G.Log.logged l.log) l.sent;
 }
 
 abbrev pub decreases-slots : goal.decreases-slots

@@ -10,7 +10,7 @@ use Rattle.chaos_node.proofs.Whole.{goes_over}
 use Rattle.file_server.specs.InTurn.{server_in}
 use Rattle.file_server.specs.Server.{server}
 use Rattle.file_server.specs.Service.{service_of}
-use Rattle.file_server.specs.Logged.{IsReadOf, LogsTurn, logged_uses, told_arrival}
+use Rattle.file_server.specs.Logged.{IsReadOf, LogsTurn, logged_arrival, logged_uses}
 use Rattle.file_server.specs.Turn.{IsTurnBy}
 use Rattle.file_server.specs.Watch.{Event}
 use Rattle.file_server.specs.Waiting.{waits}
@@ -26,12 +26,12 @@ returns-clause-logs g c =
     let begun = c.begin-begun in
     let sent = c.take_turn-sent in
     let node = c.args.self.now.node in
-    let told = g.G.Log.told in
+    let entries = g.G.Log.logged in
     let read : List Ask → LinkReport → Type 0 =
     IsReadOf g.G.LinkLog.reads (λ l. Asks (asked c.args.link.now) (asked l)) in
     let changes = change g.S.Store.contents g.S.Store.may_give g.S.Store.count in
-    let logged : told c.match-begun.log
-    ≡ told_arrival begun.result.came (g.G.LinkLog.reads begun.new.link) (told c.args.log.now) =
+    let logged : entries c.match-begun.log
+    ≡ logged_arrival begun.result.came (g.G.LinkLog.reads begun.new.link) (entries c.args.log.now) =
     elim c.match-begun.branch [
       | in-Some-Ok+in-Some w ↦ search rules
       | in-Some-Ok+in-Some+else-address-ne0 w ↦ search rules
@@ -39,15 +39,15 @@ returns-clause-logs g c =
       | in-Some+in-Err-1 w ↦ search rules
       | in-None-1 w ↦ search rules
     ] in
-    let before = service_of c.args.self.now (c.args.store.now, told c.args.log.now) (queue c.args.link.now) in
+    let before = service_of c.args.self.now (c.args.store.now, entries c.args.log.now) (queue c.args.link.now) in
     left_as
     (λ (h : HostView) l (o : OutboxView). LogsTurn changes (Some SILENT_MILLIS) read (Asks (asked c.args.link.now) (asked l))
     (waits c.args.may_wait node.host) node.carriage c.args.start c.args.now before
-    (station (server h sent.new.sessions (sent.new.store, told sent.new.log)) (queue l) o) c.end_of.result)
+    (station (server h sent.new.sessions (sent.new.store, entries sent.new.log)) (queue l) o) c.end_of.result)
     sent.new.turn _ _ _ (search rules) (search rules) (search rules)
     (subst
     (λ (w : Bool). LogsTurn changes (Some SILENT_MILLIS) read (Asks (asked c.args.link.now) (asked sent.new.turn.link.now)) w
-    node.carriage c.args.start c.args.now before (server_in sent.new.turn sent.new.sessions (sent.new.store, told sent.new.log))
+    node.carriage c.args.start c.args.now before (server_in sent.new.turn sent.new.sessions (sent.new.store, entries sent.new.log))
     c.end_of.result)
     c.waits-may_wait.ensures
     (record {
@@ -59,10 +59,10 @@ returns-clause-logs g c =
           subst
           (λ (t : Option (List Event)). IsTurnBy (logged_uses changes) (Some SILENT_MILLIS) begun.result.came c.args.start
           c.args.now (server node.host c.args.self.now.sessions (c.args.store.now, t))
-          (server_in sent.new.turn sent.new.sessions (sent.new.store, told sent.new.log)).node sent.ensures.0.lots)
+          (server_in sent.new.turn sent.new.sessions (sent.new.store, entries sent.new.log)).node sent.ensures.0.lots)
           logged sent.ensures.0.done;
       link =
-          goes_over node.carriage before (server_in sent.new.turn sent.new.sessions (sent.new.store, told sent.new.log))
+          goes_over node.carriage before (server_in sent.new.turn sent.new.sessions (sent.new.store, entries sent.new.log))
           (queue begun.new.link) sent.ensures.0.lots begun.result.came begun.result.worked sent.result c.end_of.result
           begun.ensures.begins sent.ensures.0.sends sent.ensures.0.told c.end_of.ensures.work;
     }))

@@ -4,8 +4,8 @@ use Rattle.file_server.specs.Logged.{report_use}
 use Rattle.file_server.specs.Serve.{serving_after}
 use Rattle.file_server.specs.Sessions.{Serving, serving_of}
 use Rattle.file_server.proofs.Relation.{kept_so}
-use Rattle.file_server.proofs.sessions.Kept.serve.Goals as goal
-use Rattle.file_server.proofs.sessions.Kept.serve.Goals.{then-ne, else-ne, in-Eof, in-Replied, in_default}
+use Rattle.file_server.proofs.sessions.SlotSession.serve.Goals as goal
+use Rattle.file_server.proofs.sessions.SlotSession.serve.Goals.{then-ne, else-ne, in-Eof, in-Replied, in_default}
 
 pub returns : goal.returns
 returns g c =

@@ -5,7 +5,7 @@ use std::alloc::Global;
 
 /// What a turn of a server is handed beside what it works on.
 #[derive(Drop)]
-pub(crate) struct Terms {
+pub(crate) struct TurnInput {
     /// Where memory is taken.
     pub(crate) alloc: Global,
     /// The number from which on a new connection numbers what it writes.
