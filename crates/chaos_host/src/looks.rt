@@ -65,8 +65,10 @@ impl Host {
         // A slot in use is found by the look that its user makes anyway. The set leads past others.
         let place = if is_used_at(&self.slots, from) {
             from
-        } else {
+        } else if from < self.slots.len() {
             self.in_use.next(from)?
+        } else {
+            return None;
         };
         let used = &self.slots[place];
         Some((place, used.index_at(place), &used.conn))
