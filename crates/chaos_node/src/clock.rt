@@ -3,8 +3,8 @@ ghost use Rattle.std.specs.Prelude.{◌≡◌, IfErr, IfOk};
 ghost use Rattle.chaos_node.specs.Clock.{BeginsBy, DrawnBy, IsMoment, millis_of, number_of};
 ghost use Rattle.std.specs.Duration.{as_nanos};
 
-use crate::dial::Dial;
 use crate::fault::NodeFault;
+use crate::readable_clock::ReadableClock;
 use chaos_packet::PktNum;
 use std::time::Duration;
 
@@ -25,7 +25,7 @@ impl Epoch {
     ///
     /// # Errors
     /// `Clock` where the clock can't be read.
-    pub fn new<C: Dial>(clock: &C) -> Result<Self, NodeFault>
+    pub fn new<C: ReadableClock>(clock: &C) -> Result<Self, NodeFault>
         // An epoch has the clock's own time, and as first number the whole milliseconds since 1970,
         // at most the greatest `u64`. As many indices are passed over as the low 8 bits of these
         // say.
@@ -51,7 +51,7 @@ impl Epoch {
     ///
     /// # Errors
     /// `Clock` where the clock can't be read.
-    pub fn drawn<C: Dial>(clock: &C, first: u16, passed: u8) -> Result<Self, NodeFault>
+    pub fn drawn<C: ReadableClock>(clock: &C, first: u16, passed: u8) -> Result<Self, NodeFault>
         // A drawn epoch has the clock's own time, with the first number and the count of indices
         // that were handed to it.
         ensures begins { IfOk result (DrawnBy (C.shows clock.now) first passed) }
@@ -72,7 +72,7 @@ impl Epoch {
     ///
     /// # Errors
     /// `Clock` where the clock can't be read.
-    pub fn moment<C: Dial>(&self, clock: &C) -> Result<u64, NodeFault>
+    pub fn moment<C: ReadableClock>(&self, clock: &C) -> Result<u64, NodeFault>
         // A moment is the whole milliseconds from the epoch's time to a time that the clock showed,
         // and 0 where the clock went back.
         ensures moment { IfOk result (IsMoment (C.shows clock.now) self.now) }

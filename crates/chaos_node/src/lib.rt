@@ -9,22 +9,22 @@
 //! A turn reads no clock (the moment is handed in), waits for a datagram only where its caller lets
 //! it, as its link does, and takes no memory.
 //!
-//! The moments of turns come from a clock that is handed in: a [`Dial`] says what a clock shows. An
-//! [`Epoch`] is its reading when a run begins, and [`Moments`] are read one after another. A
-//! [`NodeFault`] is what can end turns.
+//! The moments of turns come from a clock that is handed in: a [`ReadableClock`] says what a clock
+//! shows. An [`Epoch`] is its reading when a run begins, and [`Moments`] are read one after another.
+//! A [`NodeFault`] is what can end turns.
 #![tactic(auto)]
 
 mod arriving;
 mod beginning;
 mod client;
 mod clock;
-mod dial;
 mod end;
 mod fault;
 mod half;
 mod limits;
 mod moments;
 mod node;
+mod readable_clock;
 mod receiving;
 mod sending;
 mod ticking;
@@ -33,12 +33,12 @@ mod turn;
 pub use beginning::{Begun, begin};
 pub use client::client_turn;
 pub use clock::Epoch;
-pub use dial::Dial;
 pub use end::{TurnEnd, any_of, end_of};
 pub use fault::NodeFault;
 pub use half::Half;
 pub use limits::TURN_ROOM;
 pub use moments::{ClockMoments, Moments};
 pub use node::Node;
+pub use readable_clock::ReadableClock;
 pub use sending::{law_read_back, law_sends_one, send_all, send_singly};
 pub use turn::Turn;

@@ -5,8 +5,8 @@ ghost use Rattle.chaos_node.specs.Moments.{Reads, moments_in};
 ghost use Rattle.chaos_node.specs.declared.fault.NodeFault.{NodeFault};
 
 use crate::clock::Epoch;
-use crate::dial::Dial;
 use crate::fault::NodeFault;
+use crate::readable_clock::ReadableClock;
 use chaos_packet::PktNum;
 
 /// So many readings of a clock in a row may fail.
@@ -58,7 +58,7 @@ pub trait Moments {
 /// counts once more; after 1,000 such readings in a row the next reading fails. Only a test shows
 /// this number.
 #[derive(Drop)]
-pub struct ClockMoments<'a, C: Dial> {
+pub struct ClockMoments<'a, C: ReadableClock> {
     clock: &'a C,
     epoch: Epoch,
     /// The moment that the clock showed last: 0 when the run begins.
@@ -67,7 +67,7 @@ pub struct ClockMoments<'a, C: Dial> {
     failures: u32,
 }
 
-impl<'a, C: Dial> ClockMoments<'a, C> {
+impl<'a, C: ReadableClock> ClockMoments<'a, C> {
     /// A run that begins now, by the clock.
     ///
     /// # Errors
@@ -90,7 +90,7 @@ impl<'a, C: Dial> ClockMoments<'a, C> {
     }
 }
 
-impl<C: Dial> Moments for ClockMoments<'_, C> {
+impl<C: ReadableClock> Moments for ClockMoments<'_, C> {
     ghost use Rattle.chaos_node.specs.declared.clock.Epoch.{Epoch};
     ghost use Rattle.std.specs.Prelude.{refl};
     ghost use Rattle.std.proofs.lemmas.List.Elements.{All-nil};

@@ -9,15 +9,15 @@ use crate::config::config_of;
 use crate::framed::hops_of;
 use crate::network::{end_script, has_input, heard_alone};
 use crate::peer_socket::PeerSocket;
-use crate::run_ends::tell_unopened;
+use crate::run_ends::report_unopened;
+use crate::terminal_script::{PollTerminal, Terminal, TerminalScript};
 use crate::terminals::Terminals;
-use crate::typed::{ByLook, Typed, Typing};
 use crate::waiting::{Waiting, WaitingSocket};
 use chaos_chudp::ChudpLink;
 use chaos_conn::USUAL_WINDOW;
 use chaos_link::{Link, Peer, Peers, UdpLink};
 use chaos_node::{Epoch, NodeFault};
-use chaosd_ask::{HandleName, NOBODY, Notes, ScriptEnd, run_script};
+use chaosd_ask::{HandleName, NOBODY, Notes, ScriptEnd, ask_script};
 use chaosd_io::RunFault;
 use chaosd_line::{Ask, Framing};
 use file_client::{Client, ClientHost, ClockDriver, Patience, Route, Shown, Timing};
@@ -60,7 +60,7 @@ struct Answered {
 }
 
 /// Reports each handle that was written and not closed: what was written to it became no file.
-fn tell_written<R: Eprint>(rt: &R, handles: &[HandleName]) {
+fn report_written<R: Eprint>(rt: &R, handles: &[HandleName]) {
     for handle in handles {
         let name = Shown(handle.as_slice());
         let _ = eprintln!(rt;
@@ -74,11 +74,11 @@ fn ask_over<R: AllocGlobal + Clock + Eprint + Input + Print, L: Link>(
     rt: &R,
     link: &mut L,
     asked: &Asked,
-    typing: Typing,
+    terminal: Terminal,
 ) -> Answered {
     let mut reader = rt.reader();
     let mut writer = io::writer(rt);
-    ask_through(rt, link, asked, typing, &mut reader, &mut writer)
+    ask_through(rt, link, asked, terminal, &mut reader, &mut writer)
 }
 
 /// The host of the client that asks, and the timing of its run, which begins now.
@@ -97,11 +97,11 @@ fn ask_through<'a, R: AllocGlobal + Clock + Eprint, L: Link, I: Read, W: Write>(
     rt: &'a R,
     link: &mut L,
     asked: &Asked,
-    typing: Typing,
+    terminal: Terminal,
     reader: &'a mut I,
     writer: &mut W,
 ) -> Answered {
-    let mut typed = Typed::new(rt, reader, typing, asked.is_strict);
+    let mut script = TerminalScript::new(rt, reader, terminal, asked.is_strict);
     let mut notes = Notes::new();
     let end = match host_of(rt, asked) {
         Ok((mut host, timing)) => {
@@ -109,9 +109,9 @@ fn ask_through<'a, R: AllocGlobal + Clock + Eprint, L: Link, I: Read, W: Write>(
                 host: &mut host,
                 driver: ClockDriver::new(rt, link, timing),
             };
-            run_script::<ByLook, ClockDriver<'_, '_, R, L>, Typed<'a, R, I>, W>(
+            ask_script::<PollTerminal, ClockDriver<'_, '_, R, L>, TerminalScript<'a, R, I>, W>(
                 &mut client,
-                &mut typed,
+                &mut script,
                 writer,
                 &mut notes,
             )
@@ -119,7 +119,7 @@ fn ask_through<'a, R: AllocGlobal + Clock + Eprint, L: Link, I: Read, W: Write>(
         Err(fault) => Err(RunFault::from(fault)),
     };
     if end.is_ok() {
-        tell_written(rt, notes.replies.written());
+        report_written(rt, notes.replies.written());
     }
     Answered { end, notes }
 }
@@ -140,7 +140,7 @@ fn end_asked<R: Clock + Eprint + Print>(
                 address: asked.route.me,
                 socket: asked.socket,
             };
-            let _ = waiting.tell_no_reply(client, &"", &why);
+            let _ = waiting.report_no_reply(client, &"", &why);
             end_script(rt, &end, &notes)
         }
         None if waiting.is_over() => end_refused(rt, asked.server),
@@ -209,11 +209,11 @@ fn ask_by_link<'r, R, L: Link + Drop>(
 where
     R: AllocGlobal + Clock + Eprint + Files<File = File> + Input + Print,
 {
-    let typing = Typing {
-        terminals,
-        terminal: terminals.open_input(rt),
+    let terminal = Terminal {
+        is_typed: terminals.input && terminals.errors,
+        file: terminals.open_input(rt),
     };
-    let answered = ask_over(rt, &mut link, asked, typing);
+    let answered = ask_over(rt, &mut link, asked, terminal);
     end_asked(rt, asked, waiting, answered)
 }
 
@@ -244,7 +244,7 @@ where
                 }
             }
         }
-        Err(error) => tell_unopened(rt, &asked.socket, &error),
+        Err(error) => report_unopened(rt, &asked.socket, &error),
     }
 }
 

@@ -4,11 +4,13 @@ use crate::file_words::{CHANGE_UNKNOWN, FileWords};
 use crate::progress::ProgressLine;
 use chaos_file::MAX_PATH;
 use chaos_link::Link;
-use chaos_node::Dial;
+use chaos_node::ReadableClock;
 use chaosd_line::{Calling, Delete, Rename};
 use file_client::{Client, ClientHost, ClockDriver, Timing};
 use file_copy::Talk;
-use file_transfer::{Deletes, ExitStatus, Outcome, Session, Target, Teller, Viewer, run_copies};
+use file_transfer::{
+    DeleteFiles, Destination, ExitStatus, Outcome, OutcomeSink, ProgressSink, Session, run_copies,
+};
 
 /// Reports changes: nothing of a change that was made.
 fn words_of<'a, 'r, R: Eprint>(
@@ -18,8 +20,8 @@ fn words_of<'a, 'r, R: Eprint>(
     FileWords {
         rt,
         caller,
-        is_told: false,
-        target: Target::Own,
+        is_verbose: false,
+        destination: Destination::SameName,
         unknown: CHANGE_UNKNOWN,
     }
 }
@@ -32,7 +34,7 @@ fn no_progress<'a, 'r, R: AllocGlobal + Eprint>(
     ProgressLine::new(rt, caller.waiting, false, true)
 }
 
-impl<R: AllocGlobal + Dial + Eprint> Work<R> for Delete<'_> {
+impl<R: AllocGlobal + ReadableClock + Eprint> Work<R> for Delete<'_> {
     fn calling(&self) -> &Calling<'_> {
         &self.calling
     }
@@ -54,7 +56,7 @@ impl<R: AllocGlobal + Dial + Eprint> Work<R> for Delete<'_> {
             host: &mut host,
             driver,
         };
-        let mut deletes = Deletes {
+        let mut deletes = DeleteFiles {
             session: Session::new(client, progress, self.calling.login),
         };
         let status = run_copies(&mut deletes, &mut words, self.paths.as_slice());
@@ -64,7 +66,7 @@ impl<R: AllocGlobal + Dial + Eprint> Work<R> for Delete<'_> {
 }
 
 /// Renames a file, and says what came of it.
-fn renamed<T: Talk, V: Viewer>(
+fn renamed<T: Talk, V: ProgressSink>(
     session: &mut Session<'_, T, V>,
     line: &Rename<'_>,
 ) -> Outcome<T::NoReply> {
@@ -74,7 +76,7 @@ fn renamed<T: Talk, V: Viewer>(
     Outcome::of_change(session.rename(line.from.as_bytes(), line.to.as_bytes()))
 }
 
-impl<R: AllocGlobal + Dial + Eprint> Work<R> for Rename<'_> {
+impl<R: AllocGlobal + ReadableClock + Eprint> Work<R> for Rename<'_> {
     fn calling(&self) -> &Calling<'_> {
         &self.calling
     }
@@ -98,7 +100,7 @@ impl<R: AllocGlobal + Dial + Eprint> Work<R> for Rename<'_> {
         };
         let mut session = Session::new(client, progress, self.calling.login);
         let outcome = renamed(&mut session, self);
-        words.tell(self.from, &outcome);
+        words.report(self.from, &outcome);
         session.end();
         outcome.status()
     }

@@ -7,7 +7,7 @@ ghost use Rattle.chaosd_line.specs.Values.{is_contact};
 use crate::config::config_of;
 use chaos_conn::ConnConfig;
 use chaos_link::Link;
-use chaos_node::{Dial, Epoch, NodeFault};
+use chaos_node::{Epoch, NodeFault, ReadableClock};
 use chaosd_line::Calling;
 use file_client::{ClockDriver, Contact, Patience, Route, Timing, retransmit_for, round_trip};
 use std::fs::{File, Files};
@@ -51,7 +51,7 @@ fn drawn<R: Files<File = File>>(rt: &R) -> io::Result<(u16, u8)> {
 
 /// A run that begins now, with first numbers and indices that nobody can guess. Where the system
 /// gives no random bytes, they come from the clock.
-fn epoch_of<R: Dial + Files<File = File>>(rt: &R) -> Result<Epoch, NodeFault> {
+fn epoch_of<R: ReadableClock + Files<File = File>>(rt: &R) -> Result<Epoch, NodeFault> {
     match drawn(rt) {
         Ok((first, passed)) => Epoch::drawn(rt, first, passed),
         Err(_) => Epoch::new(rt),
@@ -62,7 +62,7 @@ fn epoch_of<R: Dial + Files<File = File>>(rt: &R) -> Result<Epoch, NodeFault> {
 ///
 /// # Errors
 /// `Clock` where the clock can't be read.
-pub(crate) fn timing_of<R: Dial + Files<File = File>>(
+pub(crate) fn timing_of<R: ReadableClock + Files<File = File>>(
     rt: &R,
     calling: &Calling<'_>,
 ) -> Result<Timing, NodeFault>
@@ -77,7 +77,7 @@ pub(crate) fn timing_of<R: Dial + Files<File = File>>(
 
 /// From whom to whom a line calls. The time after which what is kept is sent again goes by the
 /// round trip, which is measured first.
-pub(crate) fn route_of<R: AllocGlobal + Dial, L: Link>(
+pub(crate) fn route_of<R: AllocGlobal + ReadableClock, L: Link>(
     rt: &R,
     link: &mut L,
     calling: &Calling<'_>,

@@ -4,11 +4,13 @@ use crate::file_words::{FileWords, PUT_UNKNOWN};
 use crate::network::has_input;
 use crate::progress::ProgressLine;
 use chaos_link::Link;
-use chaos_node::Dial;
+use chaos_node::ReadableClock;
 use chaosd_io::RunFault;
 use chaosd_line::{Calling, Copying, Get, Put};
 use file_client::{Client, ClientHost, ClockDriver, Timing};
-use file_transfer::{Disk, ExitStatus, Gets, Puts, STREAM, Session, Target, run_copies};
+use file_transfer::{
+    Destination, Disk, ExitStatus, GetFiles, PutFiles, STREAM, Session, run_copies,
+};
 use std::fs::File;
 use std::rt::Files;
 
@@ -18,13 +20,13 @@ fn words_of<'a, 'r, 't, R: Eprint>(
     rt: &'a R,
     caller: &'a Caller<'a, 'r, R>,
     copying: &Copying<'_>,
-    target: Target<'t>,
+    destination: Destination<'t>,
 ) -> FileWords<'a, 'r, 't, R> {
     FileWords {
         rt,
         caller,
-        is_told: copying.is_verbose || (caller.is_terminal && !copying.is_quiet),
-        target,
+        is_verbose: copying.is_verbose || (caller.is_terminal && !copying.is_quiet),
+        destination,
         unknown: PUT_UNKNOWN,
     }
 }
@@ -41,7 +43,7 @@ fn progress_of<'a, 'r, R: AllocGlobal + Eprint>(
 
 impl<R> Work<R> for Get<'_>
 where
-    R: AllocGlobal + Dial + Eprint + Files<File = File> + Input + Print,
+    R: AllocGlobal + ReadableClock + Eprint + Files<File = File> + Input + Print,
 {
     fn calling(&self) -> &Calling<'_> {
         &self.copying.calling
@@ -62,10 +64,10 @@ where
     ) -> ExitStatus {
         let copying = &self.copying;
         let calling = &copying.calling;
-        let target = Target::of(self.output);
+        let destination = Destination::of(self.output);
         let alloc = rt.alloc();
         let progress = progress_of(rt, caller, copying);
-        let mut words = words_of(&*rt, &*caller, copying, target);
+        let mut words = words_of(&*rt, &*caller, copying, destination);
         let locals = Disk::new(&*rt, calling.socket.port());
         let mut host = host;
         let driver = ClockDriver::new(clock, link, timing);
@@ -73,11 +75,11 @@ where
             host: &mut host,
             driver,
         };
-        let mut gets = Gets {
+        let mut gets = GetFiles {
             alloc,
             session: Session::new(client, progress, calling.login),
             locals,
-            target,
+            destination,
             is_text: copying.is_text,
             is_digested: copying.is_verbose,
         };
@@ -89,7 +91,7 @@ where
 
 impl<R> Work<R> for Put<'_>
 where
-    R: AllocGlobal + Dial + Eprint + Files<File = File> + Input + Print,
+    R: AllocGlobal + ReadableClock + Eprint + Files<File = File> + Input + Print,
 {
     fn calling(&self) -> &Calling<'_> {
         &self.copying.calling
@@ -121,7 +123,7 @@ where
         let copying = &self.copying;
         let calling = &copying.calling;
         let progress = progress_of(rt, caller, copying);
-        let mut words = words_of(&*rt, &*caller, copying, Target::Own);
+        let mut words = words_of(&*rt, &*caller, copying, Destination::SameName);
         let locals = Disk::new(&*rt, calling.socket.port());
         let mut host = host;
         let driver = ClockDriver::new(clock, link, timing);
@@ -129,7 +131,7 @@ where
             host: &mut host,
             driver,
         };
-        let mut puts = Puts {
+        let mut puts = PutFiles {
             session: Session::new(client, progress, calling.login),
             locals,
             is_text: copying.is_text,

@@ -2,11 +2,11 @@
 use crate::client::{route_of, timing_of};
 use crate::framed::hops_of;
 use crate::network::link_to_server;
-use crate::run_ends::{tell_unbegun, tell_unopened};
+use crate::run_ends::{report_unbegun, report_unopened};
 use crate::waiting::Waiting;
 use chaos_chudp::ChudpLink;
 use chaos_link::{Link, Peer};
-use chaos_node::Dial;
+use chaos_node::ReadableClock;
 use chaosd_io::RunFault;
 use chaosd_line::{Calling, Framing};
 use file_client::{ClientHost, Timing};
@@ -24,7 +24,7 @@ pub(crate) struct Caller<'a, 'r, R> {
 }
 
 /// What a line asks of a server's files.
-pub(crate) trait Work<R: Dial> {
+pub(crate) trait Work<R: ReadableClock> {
     /// As whom which server is called, and how.
     fn calling(&self) -> &Calling<'_>;
 
@@ -57,7 +57,7 @@ pub(crate) trait Work<R: Dial> {
 #[inline(never)]
 pub(crate) fn run_work<R, W: Work<R>>(rt: &R, work: &W, is_terminal: bool) -> ExitStatus
 where
-    R: AllocGlobal + Dial + Eprint + Files<File = File> + Net,
+    R: AllocGlobal + ReadableClock + Eprint + Files<File = File> + Net,
 {
     if let Some(status) = work.refusal(rt) {
         return status;
@@ -74,7 +74,7 @@ where
     };
     let mut link = match link_to_server(rt, calling) {
         Ok(link) => link,
-        Err(error) => return tell_unopened(rt, &calling.socket, &error),
+        Err(error) => return report_unopened(rt, &calling.socket, &error),
     };
     match calling.framing {
         Framing::Own(_) => work_over(rt, &mut link, calling, &caller, work),
@@ -94,18 +94,18 @@ fn work_over<R, L: Link, W: Work<R>>(
     work: &W,
 ) -> ExitStatus
 where
-    R: AllocGlobal + Dial + Eprint + Files<File = File> + Net,
+    R: AllocGlobal + ReadableClock + Eprint + Files<File = File> + Net,
 {
     let timing = match timing_of(rt, calling) {
         Ok(timing) => timing,
-        Err(fault) => return tell_unbegun(rt, RunFault::from(fault)),
+        Err(fault) => return report_unbegun(rt, RunFault::from(fault)),
     };
     let route = match route_of(rt, link, calling, timing) {
         Ok(route) => route,
-        Err(fault) => return tell_unbegun(rt, RunFault::from(fault)),
+        Err(fault) => return report_unbegun(rt, RunFault::from(fault)),
     };
     match ClientHost::new(rt.alloc(), &route, timing.epoch.passed()) {
         Ok(host) => work.run(rt, host, rt, link, timing, caller),
-        Err(fault) => tell_unbegun(rt, RunFault::from(fault)),
+        Err(fault) => report_unbegun(rt, RunFault::from(fault)),
     }
 }

@@ -5,7 +5,7 @@ use crate::dialogs::Caller;
 use chaos_file::{MAX_FILE, MAX_PATH, PrintedName, Reply, read_reply};
 use chaosd_io::RunFault;
 use file_client::{NoReply, Shown};
-use file_transfer::{Contents, Lost, Outcome, Target, Teller};
+use file_transfer::{Contents, Destination, Lost, Outcome, OutcomeSink};
 use std::fmt::{Display, Formatter};
 use std::{fmt, io};
 
@@ -16,9 +16,9 @@ pub(crate) struct FileWords<'a, 'r, 't, R: Eprint> {
     /// Who calls.
     pub(crate) caller: &'a Caller<'a, 'r, R>,
     /// Whether a file that was copied is reported.
-    pub(crate) is_told: bool,
+    pub(crate) is_verbose: bool,
     /// Where files go that are got.
-    pub(crate) target: Target<'t>,
+    pub(crate) destination: Destination<'t>,
     /// The report of a file where nobody knows whether what was asked for was done.
     pub(crate) unknown: &'static str,
 }
@@ -43,7 +43,7 @@ impl Display for Hexadecimal {
 }
 
 /// Reports that a file was copied whole.
-fn told_copied<R: Eprint>(rt: &R, name: PrintedName<'_>, contents: &Contents) -> io::Result<()> {
+fn report_copied<R: Eprint>(rt: &R, name: PrintedName<'_>, contents: &Contents) -> io::Result<()> {
     let size = contents.size;
     match contents.digest {
         Some(digest) => eprintln!(rt; "{name} {size} bytes, SHA-256 {}", Hexadecimal(digest)),
@@ -52,7 +52,7 @@ fn told_copied<R: Eprint>(rt: &R, name: PrintedName<'_>, contents: &Contents) ->
 }
 
 /// Reports that a text has a byte that would not come back, and where the first stands.
-fn told_lost<R: Eprint>(rt: &R, name: PrintedName<'_>, lost: &Lost) -> io::Result<()> {
+fn report_lost<R: Eprint>(rt: &R, name: PrintedName<'_>, lost: &Lost) -> io::Result<()> {
     let Lost { byte, line, place } = *lost;
     eprintln!(rt;
         "chaosd: {name} has a byte {byte:02X} at line {line}, byte {place}, which --text would not give back; leave --text out"
@@ -60,49 +60,49 @@ fn told_lost<R: Eprint>(rt: &R, name: PrintedName<'_>, lost: &Lost) -> io::Resul
 }
 
 /// Reports that FILE doesn't take a local file's name.
-fn told_unnamed<R: Eprint>(rt: &R, name: PrintedName<'_>) -> io::Result<()> {
+fn report_unnamed<R: Eprint>(rt: &R, name: PrintedName<'_>) -> io::Result<()> {
     eprintln!(rt;
         "chaosd: {name}: skipped, since its name is no path of FILE (1 to {MAX_PATH} letters, digits, dots, hyphens and underscores, no dot in front); --as or --rename gives it one"
     )
 }
 
 /// Reports what became of a file that was not done, in words behind its name.
-fn told_missed<R: Eprint, D: Display>(rt: &R, name: PrintedName<'_>, what: &D) -> io::Result<()> {
+fn report_missed<R: Eprint, D: Display>(rt: &R, name: PrintedName<'_>, what: &D) -> io::Result<()> {
     eprintln!(rt; "chaosd: {name}: {what}")
 }
 
 /// Reports that the server sent what is no answer.
-fn told_strange<R: Eprint>(rt: &R, name: PrintedName<'_>, reply: &Reply) -> io::Result<()> {
+fn report_strange<R: Eprint>(rt: &R, name: PrintedName<'_>, reply: &Reply) -> io::Result<()> {
     let text = Shown(reply.as_slice());
     eprintln!(rt; "chaosd: {name}: not an answer of FILE: {text}")
 }
 
 /// Reports that a file, here or there, is longer than FILE allows.
-fn told_big<R: Eprint>(rt: &R, name: PrintedName<'_>) -> io::Result<()> {
+fn report_big<R: Eprint>(rt: &R, name: PrintedName<'_>) -> io::Result<()> {
     eprintln!(rt; "chaosd: {name} has more than {MAX_FILE} bytes")
 }
 
 /// Reports that the path of a file is longer than FILE allows.
-fn told_long<R: Eprint>(rt: &R, name: PrintedName<'_>) -> io::Result<()> {
+fn report_long<R: Eprint>(rt: &R, name: PrintedName<'_>) -> io::Result<()> {
     eprintln!(rt; "chaosd: {name}: a path of FILE has at most {MAX_PATH} bytes")
 }
 
 /// Reports that a local file could not be opened.
-fn told_unread<R: Eprint>(rt: &R, name: PrintedName<'_>, fault: &io::Error) -> io::Result<()> {
+fn report_unread<R: Eprint>(rt: &R, name: PrintedName<'_>, fault: &io::Error) -> io::Result<()> {
     eprintln!(rt; "chaosd: can't open {name}: {fault}")
 }
 
 /// Reports that a local file could not be written.
-fn told_unwritten<R: Eprint>(
+fn report_unwritten<R: Eprint>(
     rt: &R,
-    target: Target<'_>,
+    destination: Destination<'_>,
     name: PrintedName<'_>,
     fault: &io::Error,
 ) -> io::Result<()> {
-    let (folder, local) = match target {
-        Target::Own => ("", name),
-        Target::Named(local) => ("", PrintedName(local)),
-        Target::Inside(folder) => (folder, name),
+    let (folder, local) = match destination {
+        Destination::SameName => ("", name),
+        Destination::File(local) => ("", PrintedName(local)),
+        Destination::Folder(folder) => (folder, name),
     };
     eprintln!(rt;
         "chaosd: can't write {}{local}: {fault}",
@@ -120,10 +120,10 @@ fn error_text(reply: &Reply) -> &[u8] {
     refused.unwrap_or(bytes)
 }
 
-impl<R: Eprint> Teller<NoReply> for FileWords<'_, '_, '_, R> {
-    ghost told = { λ _. None };
+impl<R: Eprint> OutcomeSink<NoReply> for FileWords<'_, '_, '_, R> {
+    ghost reported = { λ _. None };
 
-    fn tell(&mut self, name: &str, outcome: &Outcome<NoReply>) {
+    fn report(&mut self, name: &str, outcome: &Outcome<NoReply>) {
         let rt = self.rt;
         let name = PrintedName(name);
         let Caller {
@@ -132,25 +132,25 @@ impl<R: Eprint> Teller<NoReply> for FileWords<'_, '_, '_, R> {
             ..
         } = *self.caller;
         let _ = match outcome {
-            Outcome::Copied(contents) if self.is_told => told_copied(rt, name, contents),
+            Outcome::Copied(contents) if self.is_verbose => report_copied(rt, name, contents),
             Outcome::Copied(_) | Outcome::Changed => Ok(()),
-            Outcome::Garbled(lost) => told_lost(rt, name, lost),
-            Outcome::TooBig => told_big(rt, name),
-            Outcome::TooLong => told_long(rt, name),
-            Outcome::Unnamed => told_unnamed(rt, name),
-            Outcome::NotTried => told_missed(rt, name, &"not tried"),
-            Outcome::Unwritten(fault) => told_unwritten(rt, self.target, name, fault),
-            Outcome::Unread(fault) => told_unread(rt, name, fault),
-            Outcome::Failed(fault) => told_missed(rt, name, &RunFault::from(*fault)),
-            Outcome::Refused(reply) => told_missed(rt, name, &Shown(error_text(reply))),
-            Outcome::Strange(reply) => told_strange(rt, name, reply),
+            Outcome::Garbled(lost) => report_lost(rt, name, lost),
+            Outcome::TooBig => report_big(rt, name),
+            Outcome::TooLong => report_long(rt, name),
+            Outcome::Unnamed => report_unnamed(rt, name),
+            Outcome::NotTried => report_missed(rt, name, &"not tried"),
+            Outcome::Unwritten(fault) => report_unwritten(rt, self.destination, name, fault),
+            Outcome::Unread(fault) => report_unread(rt, name, fault),
+            Outcome::Failed(fault) => report_missed(rt, name, &RunFault::from(*fault)),
+            Outcome::Refused(reply) => report_missed(rt, name, &Shown(error_text(reply))),
+            Outcome::Strange(reply) => report_strange(rt, name, reply),
             Outcome::Unanswered(why) => {
                 let lead = format_args!("{name}: ");
-                waiting.tell_no_reply(client, &lead, why)
+                waiting.report_no_reply(client, &lead, why)
             }
             Outcome::Unknown(why) => {
                 let lead = format_args!("{name}: {}: ", self.unknown);
-                waiting.tell_no_reply(client, &lead, why)
+                waiting.report_no_reply(client, &lead, why)
             }
         };
     }

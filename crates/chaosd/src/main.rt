@@ -23,8 +23,8 @@ mod runs;
 mod serving;
 mod skipped;
 mod status;
+mod terminal_script;
 mod terminals;
-mod typed;
 mod waiting;
 mod words;
 
@@ -105,7 +105,7 @@ where
 }
 
 /// Reports why the line can't be had. The result is the status.
-fn tell_unread<R: Eprint>(rt: &R, fault: WordsFault) -> ExitStatus {
+fn report_unread<R: Eprint>(rt: &R, fault: WordsFault) -> ExitStatus {
     let _ = eprintln!(rt; "chaosd: {fault}");
     fault.status()
 }
@@ -119,7 +119,7 @@ where
     let mut line = line;
     let is_left = match skip_marked(&mut line, marks) {
         Ok(is_left) => is_left,
-        Err(fault) => return tell_unread(rt, fault),
+        Err(fault) => return report_unread(rt, fault),
     };
     let mut status = ExitStatus::Done;
     for mark in marks {
@@ -139,7 +139,7 @@ where
 {
     let words = match words_of(rt) {
         Ok(words) => words,
-        Err(fault) => return tell_unread(rt, fault),
+        Err(fault) => return report_unread(rt, fault),
     };
     let marks = words.marks.as_slice();
     match (
@@ -148,7 +148,7 @@ where
     ) {
         (Ok(line), None) => run_line(rt, line, terminals),
         (Ok(line), Some(_)) => run_readable(rt, line, marks, terminals),
-        (Err(_), Some(mark)) => tell_unread(rt, WordsFault::NotText(mark.place)),
+        (Err(_), Some(mark)) => report_unread(rt, WordsFault::NotText(mark.place)),
         (Err(error), None) => refuse_words(rt, words.texts.as_slice(), &error),
     }
 }

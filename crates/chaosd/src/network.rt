@@ -3,7 +3,7 @@ ghost use Rattle.std.specs.Prelude.{◌≡◌};
 ghost use Rattle.chaosd.specs.Hearing.{alone_heard};
 
 use crate::peer_socket::PeerSocket;
-use crate::run_ends::{tell_script, tell_unopened};
+use crate::run_ends::{report_script, report_unopened};
 use chaos_link::{Carriage, Peer, Peers, UdpLink};
 use chaosd_ask::{LOOP_CLIENT, LOOP_SERVER, Notes, ScriptEnd, run_loop};
 use chaosd_io::RunFault;
@@ -79,7 +79,7 @@ pub(crate) fn end_script<R: Eprint>(
     end: &Result<ScriptEnd, RunFault>,
     notes: &Notes,
 ) -> ExitStatus {
-    tell_script(rt, end, notes);
+    report_script(rt, end, notes);
     ExitStatus::of_run(end.map(|end| end.replied == end.commands))
 }
 
@@ -94,7 +94,7 @@ pub(crate) fn run_loop_line<R: AllocGlobal + Eprint + Input + Net + Print>(
     }
     let (mut near, mut far) = match own_links(rt) {
         Ok(links) => links,
-        Err(error) => return tell_unopened(rt, &"a socket of this machine", &error),
+        Err(error) => return report_unopened(rt, &"a socket of this machine", &error),
     };
     let mut notes = Notes::new();
     let end = run_loop(

@@ -2,7 +2,7 @@
 use crate::waiting::Waiting;
 use chaos_file::PrintedName;
 use file_copy::Observer;
-use file_transfer::{Progress, Share, Viewer};
+use file_transfer::{Progress, ProgressSink, Share};
 
 /// A line of a terminal that shows how far a file has come. It keeps the client's wait for the
 /// server, too, which ends where nobody listens there.
@@ -100,7 +100,7 @@ impl<R: Eprint> Observer for ProgressLine<'_, '_, R> {
     }
 }
 
-impl<R: Eprint> Viewer for ProgressLine<'_, '_, R> {
+impl<R: Eprint> ProgressSink for ProgressLine<'_, '_, R> {
     fn begin(&mut self, name: &str, moment: u64) {
         self.name.clear();
         if self.is_shown {
@@ -117,7 +117,7 @@ impl<R: Eprint> Viewer for ProgressLine<'_, '_, R> {
         }
     }
 
-    fn tell_returns(&mut self, name: &str) {
+    fn report_returns(&mut self, name: &str) {
         if !self.is_quiet {
             let name = PrintedName(name);
             let _ = eprintln!(self.rt;

@@ -10,7 +10,7 @@ use std::io;
 
 /// Reports the fault that a run ended by, where there was one. A bad line of a script is reported
 /// in words of its own, without the program's name.
-pub(crate) fn tell_end<R: Eprint, T>(rt: &R, end: &Result<T, RunFault>) {
+pub(crate) fn report_end<R: Eprint, T>(rt: &R, end: &Result<T, RunFault>) {
     if let Err(fault) = end {
         let _ = match fault {
             RunFault::BadScript(_) => eprintln!(rt; "{fault}"),
@@ -19,14 +19,14 @@ pub(crate) fn tell_end<R: Eprint, T>(rt: &R, end: &Result<T, RunFault>) {
     }
 }
 
-/// Reports how a run over a script ended: as [`tell_end`] does, and what is wrong with a bad line,
+/// Reports how a run over a script ended: as [`report_end`] does, and what is wrong with a bad line,
 /// and why a command got no reply.
-pub(crate) fn tell_script<R: Eprint>(rt: &R, end: &Result<ScriptEnd, RunFault>, notes: &Notes) {
+pub(crate) fn report_script<R: Eprint>(rt: &R, end: &Result<ScriptEnd, RunFault>, notes: &Notes) {
     let _ = match (end, &notes.bad_line, &notes.no_reply) {
         (Err(fault @ RunFault::BadScript(_)), Some(bad), _) => eprintln!(rt; "{fault}: {bad}"),
         (Ok(_), _, Some(why)) => eprintln!(rt; "chaosd: {why}"),
         _ => {
-            tell_end(rt, end);
+            report_end(rt, end);
             return;
         }
     };
@@ -34,7 +34,7 @@ pub(crate) fn tell_script<R: Eprint>(rt: &R, end: &Result<ScriptEnd, RunFault>, 
 
 /// Reports what could not be opened, and why. The result is the status of a program that ends by
 /// it.
-pub(crate) fn tell_unopened<R: Eprint, D: Display>(
+pub(crate) fn report_unopened<R: Eprint, D: Display>(
     rt: &R,
     what: &D,
     error: &io::Error,
@@ -51,7 +51,7 @@ pub(crate) fn tell_unopened<R: Eprint, D: Display>(
 }
 
 /// Reports the fault by which a run over files could not begin.
-pub(crate) fn tell_unbegun<R: Eprint>(rt: &R, fault: RunFault) -> ExitStatus
+pub(crate) fn report_unbegun<R: Eprint>(rt: &R, fault: RunFault) -> ExitStatus
     // The status is that of the fault.
     ensures { result ≡ status_of_fault fault }
 {

@@ -2,7 +2,7 @@
 ghost use Rattle.std.specs.Prelude.{◌≡◌};
 ghost use Rattle.chaosd.specs.Framed.{format_by, view_by};
 
-use crate::run_ends::tell_end;
+use crate::run_ends::report_end;
 use chaosd_io::RunFault;
 use chaosd_lab::{BadLine, Stage, run_script};
 use chaosd_line::Show;
@@ -43,18 +43,18 @@ pub(crate) fn run_show_line<R: Input + Print + Eprint>(rt: &R, show: Show) -> Ex
         &mut rt.reader(),
         &mut io::writer(rt),
     );
-    tell_end(rt, &end);
+    report_end(rt, &end);
     ExitStatus::of_run(end.map(|tally| tally.refused == 0))
 }
 
-/// Reports how a run over a laboratory's script ended: as [`tell_end`] does, and what is wrong with
+/// Reports how a run over a laboratory's script ended: as [`report_end`] does, and what is wrong with
 /// a bad line.
-fn tell_lab<R: Eprint, T>(rt: &R, end: &Result<T, RunFault>, wrong: Option<BadLine>) {
+fn report_lab<R: Eprint, T>(rt: &R, end: &Result<T, RunFault>, wrong: Option<BadLine>) {
     match (end, wrong) {
         (Err(fault @ RunFault::BadScript(_)), Some(wrong)) => {
             let _ = eprintln!(rt; "{fault}: {wrong}");
         }
-        _ => tell_end(rt, end),
+        _ => report_end(rt, end),
     }
 }
 
@@ -70,6 +70,6 @@ pub(crate) fn run_script_line<S: Stage, R: AllocGlobal + Input + Print + Eprint>
         &mut io::writer(rt),
         &mut wrong,
     );
-    tell_lab(rt, &end, wrong);
+    report_lab(rt, &end, wrong);
     ExitStatus::of_run(end.map(|refused| refused == 0))
 }

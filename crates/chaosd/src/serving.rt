@@ -5,7 +5,7 @@ ghost use Rattle.chaosd_line.specs.Framings.{carriage_of};
 
 use crate::config::config_of;
 use crate::framed::hops_of;
-use crate::run_ends::tell_unopened;
+use crate::run_ends::report_unopened;
 use chaos_chudp::ChudpLink;
 use chaos_file::{DirStore, PrintedName, ReadOnly, Store};
 use chaos_link::{Link, Peers, Reports, UdpLink};
@@ -129,7 +129,7 @@ fn serve_folder<R: AllocGlobal + Clock + Eprint + Files<File = File> + Net>(
 ) -> ExitStatus {
     let peers = match line.peers.clone() {
         Ok(peers) => peers,
-        Err(error) => return tell_unopened(rt, &line.socket, &io::Error::from(error)),
+        Err(error) => return report_unopened(rt, &line.socket, &io::Error::from(error)),
     };
     let options = options_of(&line);
     let level = level_of(line.is_quiet, line.log);
@@ -171,10 +171,10 @@ pub(crate) fn run_serve_line<R: AllocGlobal + Clock + Eprint + Files<File = File
 ) -> ExitStatus {
     let folder = match store_at(rt, line.folder) {
         Ok(folder) => folder,
-        Err(error) => return tell_unopened(rt, &PrintedName(line.folder), &error),
+        Err(error) => return report_unopened(rt, &PrintedName(line.folder), &error),
     };
     match UdpSocket::bind(rt, SocketAddr::V4(line.socket)) {
         Ok(bound) => serve_folder(rt, line, folder, bound),
-        Err(error) => tell_unopened(rt, &line.socket, &error),
+        Err(error) => report_unopened(rt, &line.socket, &error),
     }
 }

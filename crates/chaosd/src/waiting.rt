@@ -9,7 +9,7 @@ use std::net::{Ipv4Addr, Net, SocketAddr, SocketAddrV4, UdpSocket};
 use std::time::{Clock, Duration};
 
 /// After so many milliseconds without an answer a client reports that it waits for the server.
-const TOLD_AFTER: u64 = 1_000;
+const REPORTED_AFTER: u64 = 1_000;
 
 /// After so many milliseconds the system is asked whether anybody listens there, and then again
 /// each time that as many have passed.
@@ -28,7 +28,7 @@ struct Wait {
     asked: u64,
     /// Since when the system refuses.
     refused: Option<u64>,
-    was_told: bool,
+    was_reported: bool,
     /// Whether the server was heard.
     is_heard: bool,
     is_over: bool,
@@ -39,7 +39,7 @@ impl Wait {
         since: None,
         asked: 0,
         refused: None,
-        was_told: false,
+        was_reported: false,
         is_heard: false,
         is_over: false,
     };
@@ -56,7 +56,7 @@ impl Wait {
 pub(crate) struct Waiting<'a, R> {
     rt: &'a R,
     server: Peer,
-    is_told: bool,
+    is_reported: bool,
     probe: Option<UdpSocket>,
     wait: Cell<Wait>,
 }
@@ -72,14 +72,14 @@ fn probe_of<R: Net>(rt: &R, server: SocketAddrV4) -> io::Result<UdpSocket> {
 
 impl<'a, R: Eprint> Waiting<'a, R> {
     /// A wait for this server that hasn't begun. What fails of its probe is passed over.
-    pub(crate) fn new(rt: &'a R, server: Peer, is_told: bool) -> Self
+    pub(crate) fn new(rt: &'a R, server: Peer, is_reported: bool) -> Self
     where
         R: Net,
     {
         Waiting {
             rt,
             server,
-            is_told,
+            is_reported,
             probe: probe_of(rt, server.socket).ok(),
             wait: Cell::new(Wait::BEGUN),
         }
@@ -105,7 +105,7 @@ impl<'a, R: Eprint> Waiting<'a, R> {
     }
 
     /// Reports behind this lead why the server didn't answer a client, and what to look at.
-    pub(crate) fn tell_no_reply<D: Display>(
+    pub(crate) fn report_no_reply<D: Display>(
         &self,
         client: Peer,
         lead: &D,
@@ -135,9 +135,9 @@ impl<'a, R: Eprint> Waiting<'a, R> {
             wait.since = Some(now);
             wait.asked = now;
         }
-        if !wait.was_told && now.saturating_sub(since) >= TOLD_AFTER {
-            wait.was_told = true;
-            self.tell();
+        if !wait.was_reported && now.saturating_sub(since) >= REPORTED_AFTER {
+            wait.was_reported = true;
+            self.report();
         }
         if now.saturating_sub(wait.asked) >= ASKED_EVERY {
             wait.asked = now;
@@ -151,8 +151,8 @@ impl<'a, R: Eprint> Waiting<'a, R> {
         self.wait.set(wait);
     }
 
-    fn tell(&self) {
-        if self.is_told {
+    fn report(&self) {
+        if self.is_reported {
             let Peer { address, socket } = self.server;
             let _ = eprintln!(self.rt; "chaosd: waiting for host {address:o} at {socket}");
         }

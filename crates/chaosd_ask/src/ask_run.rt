@@ -11,12 +11,12 @@ ghost use Rattle.file_client.specs.Talk.{talker};
 ghost use Rattle.chaos_node.specs.declared.clock.Epoch.{Epoch};
 
 use crate::end::ScriptEnd;
+use crate::input_ready::AlwaysReady;
 use crate::notes::Notes;
-use crate::ready::Unasked;
-use crate::script::run_script;
+use crate::script::ask_script;
 use chaos_conn::ConnConfig;
 use chaos_link::{Carriage, Link};
-use chaos_node::{Dial, Epoch};
+use chaos_node::{Epoch, ReadableClock};
 use chaosd_io::RunFault;
 use file_client::{Client, ClientHost, ClockDriver, Contact, Route, Timing};
 use std::alloc::Global;
@@ -35,7 +35,7 @@ use std::io::{Read, Write};
 ///
 /// # Errors
 /// [`RunFault`] as for [`crate::run_loop`], and 7 where the clock can't be read.
-pub fn run_ask<C: Dial, R: Read, W: Write, L: Link>(
+pub fn run_ask<C: ReadableClock, R: Read, W: Write, L: Link>(
     clock: &C,
     alloc: Global,
     reader: &mut R,
@@ -87,5 +87,5 @@ pub fn run_ask<C: Dial, R: Read, W: Write, L: Link>(
         host: &mut host,
         driver,
     };
-    run_script::<Unasked, ClockDriver<'_, '_, C, L>, R, W>(&mut client, reader, writer, notes)
+    ask_script::<AlwaysReady, ClockDriver<'_, '_, C, L>, R, W>(&mut client, reader, writer, notes)
 }

@@ -6,10 +6,10 @@ ghost use Rattle.chaosd_ask.specs.Command.{command_of, wrong_command};
 use crate::notes::Notes;
 use chaosd_io::{BadText, Data, LINE_LIMIT, WriteBuffer, read_data, why_text, without_return};
 
-/// The places of a command and of its reply, which are kept from line to line, what waits to be
+/// The buffers of a command and of its reply, which are kept from line to line, what waits to be
 /// printed, and what is noted of the run.
 #[derive(Drop)]
-pub struct Places {
+pub struct ScriptBuffers {
     pub command: Data,
     pub reply: Data,
     pub out: WriteBuffer,

@@ -11,10 +11,10 @@ ghost use Rattle.file_client.specs.Caller.{new_caller};
 ghost use Rattle.file_client.specs.Talk.{talker};
 
 use crate::end::ScriptEnd;
+use crate::input_ready::AlwaysReady;
 use crate::limits::{LOOP_CLIENT, LOOP_CLIENT_START, LOOP_SERVER, LOOP_SERVER_START, LOOP_TURN};
 use crate::notes::Notes;
-use crate::ready::Unasked;
-use crate::script::run_script;
+use crate::script::ask_script;
 use chaos_conn::ConnConfig;
 use chaos_file::MemStore;
 use chaos_host::{Host, HostDelivered};
@@ -266,5 +266,10 @@ pub fn run_loop<R: Read, W: Write, A: Link, B: Link>(
         host: &mut host,
         driver,
     };
-    run_script::<Unasked, LoopDriver<'_, '_, '_, A, B>, R, W>(&mut client, reader, writer, notes)
+    ask_script::<AlwaysReady, LoopDriver<'_, '_, '_, A, B>, R, W>(
+        &mut client,
+        reader,
+        writer,
+        notes,
+    )
 }

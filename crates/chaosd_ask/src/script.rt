@@ -10,10 +10,10 @@ ghost use Rattle.chaosd_ask.specs.Script.{Runs};
 ghost use Rattle.file_client.specs.Fault.{IsTurnFault};
 ghost use Rattle.file_client.specs.Talk.{talker};
 
-use crate::command::{Places, read_command};
+use crate::command::{ScriptBuffers, read_command};
 use crate::end::ScriptEnd;
+use crate::input_ready::InputReady;
 use crate::notes::{Notes, ReplyNotes};
-use crate::ready::Ready;
 use crate::replies::{hand_on, print_none, print_reply};
 use chaos_node::NodeFault;
 use chaosd_io::{Data, INPUT_LIMIT, KEPT_LEN, LineReader, RunFault, WriteBuffer};
@@ -33,7 +33,7 @@ use std::io::{Read, Write};
 ///
 /// # Errors
 /// As [`crate::run_loop`], and `ClockFault` where the clock can't be read.
-pub fn run_script<P: Ready<R>, D: Driver, R: Read, W: Write>(
+pub fn ask_script<P: InputReady<R>, D: Driver, R: Read, W: Write>(
     client: &mut Client<'_, D>,
     reader: &mut R,
     writer: &mut W,
@@ -82,7 +82,7 @@ fn is_broken(end: &Result<ScriptEnd, RunFault>) -> bool
 
 /// Asks each command in turn and prints its reply, until one gets none. Behind the last an EOF is
 /// sent. What waits to be printed is handed on however that ends.
-fn ask_all<P: Ready<R>, D: Driver, R: Read, W: Write>(
+fn ask_all<P: InputReady<R>, D: Driver, R: Read, W: Write>(
     client: &mut Client<'_, D>,
     reader: &mut R,
     writer: &mut W,
@@ -101,15 +101,15 @@ fn ask_all<P: Ready<R>, D: Driver, R: Read, W: Write>(
         notes.new.bad_line notes.new.replies result }
 {
     let out = WriteBuffer::new();
-    let mut places = Places {
+    let mut buffers = ScriptBuffers {
         command: Data::new(),
         reply: Data::new(),
         out,
         notes: Notes::new(),
     };
-    let end = ask_lines::<P, D, R, W>(client, reader, &mut places, writer);
-    *notes = places.notes;
-    let printed = hand_on(&mut places.out, writer);
+    let end = ask_lines::<P, D, R, W>(client, reader, &mut buffers, writer);
+    *notes = buffers.notes;
+    let printed = hand_on(&mut buffers.out, writer);
     if is_broken(&end) {
         return end;
     }
@@ -119,15 +119,15 @@ fn ask_all<P: Ready<R>, D: Driver, R: Read, W: Write>(
 
 /// Asks each command in turn, and puts its reply behind what waits to be printed, which is handed
 /// on before each read.
-fn ask_lines<P: Ready<R>, D: Driver, R: Read, W: Write>(
+fn ask_lines<P: InputReady<R>, D: Driver, R: Read, W: Write>(
     client: &mut Client<'_, D>,
     reader: &mut R,
-    places: &mut Places,
+    buffers: &mut ScriptBuffers,
     writer: &mut W,
 ) -> Result<ScriptEnd, RunFault>
-    requires fresh { places.old.notes.replies ≡ no_notes }
+    requires fresh { buffers.old.notes.replies ≡ no_notes }
     ensures runs { Runs (R.remaining reader.old) (R.remaining reader.new)
-        (written_of (W.contents writer.old) places.old.out) (written_of (W.contents writer.new) places.new.out)
+        (written_of (W.contents writer.old) buffers.old.out) (written_of (W.contents writer.new) buffers.new.out)
         result }
     ensures same_driver { (D.links client.new.driver ≡ D.links client.old.driver)
         × (D.time client.new.driver ≡ D.time client.old.driver) }
@@ -135,19 +135,19 @@ fn ask_lines<P: Ready<R>, D: Driver, R: Read, W: Write>(
     ensures well { OnOk result (D.failures client.new.driver ≤ D.failures client.old.driver) }
     ensures talk { Asks (D.pace (D.time client.old.driver)) (talker client.old.host.now.caller (D.queue client.old.driver))
         (talker client.new.host.now.caller (D.queue client.new.driver)) (R.remaining reader.old)
-        (R.remaining reader.new) (written_of (W.contents writer.old) places.old.out)
-        (written_of (W.contents writer.new) places.new.out) result }
+        (R.remaining reader.new) (written_of (W.contents writer.old) buffers.old.out)
+        (written_of (W.contents writer.new) buffers.new.out) result }
     ensures noted { NotesRun (R.remaining reader.old)
-        (written_of (W.contents writer.old) places.old.out)
-        (written_of (W.contents writer.new) places.new.out) places.new.notes.bad_line
-        places.new.notes.replies result }
+        (written_of (W.contents writer.old) buffers.old.out)
+        (written_of (W.contents writer.new) buffers.new.out) buffers.new.notes.bad_line
+        buffers.new.notes.replies result }
 {
     let mut lines: LineReader<KEPT_LEN> = LineReader::new(INPUT_LIMIT);
     let mut replied = 0;
     'reads: loop {
         'lines: while lines.cut() {
             let line = lines.line();
-            if !ask_line(client, line, replied, places, writer)? {
+            if !ask_line(client, line, replied, buffers, writer)? {
                 return Ok(ScriptEnd {
                     commands: replied + 1,
                     replied,
@@ -155,14 +155,14 @@ fn ask_lines<P: Ready<R>, D: Driver, R: Read, W: Write>(
             }
             replied += 1;
         }
-        hand_on(&mut places.out, writer)?;
-        wait_for_input::<P, D, R>(client, reader, &places.notes.replies)?;
+        hand_on(&mut buffers.out, writer)?;
+        wait_for_input::<P, D, R>(client, reader, &buffers.notes.replies)?;
         if !lines.refill(reader)? {
             break 'reads;
         }
     }
     if let Some(line) = lines.last() {
-        if !ask_line(client, line, replied, places, writer)? {
+        if !ask_line(client, line, replied, buffers, writer)? {
             return Ok(ScriptEnd {
                 commands: replied + 1,
                 replied,
@@ -179,7 +179,7 @@ fn ask_lines<P: Ready<R>, D: Driver, R: Read, W: Write>(
 
 /// Takes turns until the reader has something to give, or there is no connection: then a read may
 /// wait. The reader is shown what was noted of the replies.
-fn wait_for_input<P: Ready<R>, D: Driver, R: Read>(
+fn wait_for_input<P: InputReady<R>, D: Driver, R: Read>(
     client: &mut Client<'_, D>,
     reader: &mut R,
     notes: &ReplyNotes,
@@ -212,38 +212,38 @@ fn ask_line<D: Driver, W: Write>(
     client: &mut Client<'_, D>,
     line: &[u8],
     replied: u64,
-    places: &mut Places,
+    buffers: &mut ScriptBuffers,
     writer: &mut W,
 ) -> Result<bool, RunFault>
     requires few { replied ≤ INPUT_LIMIT }
     ensures wrong { (number : ℕ) → result ≡ Err (RunFault.BadScript number) →
-        places.new.notes.bad_line ≡ Some (wrong_command line.now) }
+        buffers.new.notes.bad_line ≡ Some (wrong_command line.now) }
     ensures asks { AsksLine (D.pace (D.time client.old.driver))
         (talker client.old.host.now.caller (D.queue client.old.driver))
         (talker client.new.host.now.caller (D.queue client.new.driver)) replied line.now
-        (written_of (W.contents writer.old) places.old.out) (written_of (W.contents writer.new) places.new.out)
+        (written_of (W.contents writer.old) buffers.old.out) (written_of (W.contents writer.new) buffers.new.out)
         result }
-    ensures notes { NotesLine (written_of (W.contents writer.old) places.old.out)
-        (written_of (W.contents writer.new) places.new.out) places.old.notes.replies
-        places.new.notes.replies result }
+    ensures notes { NotesLine (written_of (W.contents writer.old) buffers.old.out)
+        (written_of (W.contents writer.new) buffers.new.out) buffers.old.notes.replies
+        buffers.new.notes.replies result }
     ensures same_driver { (D.links client.new.driver ≡ D.links client.old.driver)
         × (D.time client.new.driver ≡ D.time client.old.driver) }
     ensures failed { result ≡ Err RunFault.LinkFault → 0 < D.failures client.new.driver }
     ensures well { OnOk result (D.failures client.new.driver ≤ D.failures client.old.driver) }
 {
-    match read_command(line, &mut places.command) {
+    match read_command(line, &mut buffers.command) {
         Ok(()) => {}
         Err(wrong) => {
-            places.notes.bad_line = Some(wrong);
+            buffers.notes.bad_line = Some(wrong);
             return Err(RunFault::BadScript(replied + 1));
         }
     }
-    if !client.ask(places.command.as_slice(), &mut places.reply)? {
-        places.notes.no_reply = Some(client.no_reply());
-        print_none(&mut places.out, writer)?;
+    if !client.ask(buffers.command.as_slice(), &mut buffers.reply)? {
+        buffers.notes.no_reply = Some(client.no_reply());
+        print_none(&mut buffers.out, writer)?;
         return Ok(false);
     }
-    print_reply(&mut places.out, writer, places.reply.as_slice())?;
-    places.notes.replies.note(places.reply.as_slice());
+    print_reply(&mut buffers.out, writer, buffers.reply.as_slice())?;
+    buffers.notes.replies.note(buffers.reply.as_slice());
     Ok(true)
 }

@@ -8,7 +8,7 @@ ghost use Rattle.chaosd_ask.specs.Serving.{IsServeFault};
 use chaos_conn::ConnConfig;
 use chaos_file::Store;
 use chaos_link::{Carriage, Link};
-use chaos_node::{ClockMoments, Dial};
+use chaos_node::{ClockMoments, ReadableClock};
 use chaosd_io::RunFault;
 use file_server::{ServeOptions, Silent, run_serve_by};
 use std::alloc::Global;
@@ -26,7 +26,7 @@ use std::alloc::Global;
 /// - 4: there is no memory for the host.
 /// - 6: the link failed; the run ends after that turn.
 /// - 7: the clock can't be read.
-pub fn run_serve<C: Dial, L: Link, S: Store>(
+pub fn run_serve<C: ReadableClock, L: Link, S: Store>(
     clock: &C,
     alloc: Global,
     link: &mut L,

@@ -6,7 +6,7 @@ use Rattle.chaos_link.specs.Link.{Ask, QueueView}
 use Rattle.file_copy.specs.Talk.{Talked, received_in, sent_if, with_received, with_sent}
 use Rattle.file_client.specs.Caller.{CallerView, Receives, Sends, TurnsOrStops, asked_again}
 use Rattle.file_client.specs.Pace.{Pace}
-use Rattle.file_client.specs.Talk.{Talker, Writes, Reads, Turns, Says, Told, and_then, command_item, talker}
+use Rattle.file_client.specs.Talk.{Talker, Writes, Reads, Turns, Says, SaysAt, and_then, command_item, talker}
 use Rattle.file_client.proofs.Asked.{asks_of}
 use Rattle.file_client.proofs.Talking.{talks_step}
 
@@ -67,30 +67,30 @@ module _ (p : Pace) (first : Talker) where
   -- ---- a call's, over a link of which the one relation says what was asked before, and the other what was asked then
 
   module _ (A B : List Ask → Type 0) where
-    pub told_sent : ((asks : List Ask) → A asks → B asks) → (a b : Talker) (talk : Talked) (command : List ℕ)
+    pub says_sent_at : ((asks : List Ask) → A asks → B asks) → (a b : Talker) (talk : Talked) (command : List ℕ)
         (began was now : ℕ) (taken : Bool)
         → Sends (command_item command) was taken a.caller b.caller → b.queue ≡ a.queue → now ≡ was
-        → Told p A first began talk a was
-        → Told p B first began (with_received [] (with_sent (sent_if taken command) talk)) b now
-    told_sent alike a b talk command began was now taken sends queue same told shown =
-        let (is, says) = told shown in
+        → SaysAt p A first began talk a was
+        → SaysAt p B first began (with_received [] (with_sent (sent_if taken command) talk)) b now
+    says_sent_at alike a b talk command began was now taken sends queue same said shown =
+        let (is, says) = said shown in
         (subst p.Shows (sym same) is, says_by A B alike b _ (says_sent A a b talk command was taken is sends queue says))
 
-    pub told_received : ((asks : List Ask) → A asks → B asks) → (a b : Talker) (talk : Talked) (got : Option (List ℕ))
+    pub says_received_at : ((asks : List Ask) → A asks → B asks) → (a b : Talker) (talk : Talked) (got : Option (List ℕ))
         (began was now : ℕ)
-        → Receives got a.caller b.caller → b.queue ≡ a.queue → now ≡ was → Told p A first began talk a was
-        → Told p B first began (with_received (received_in got) (with_sent [] talk)) b now
-    told_received alike a b talk got began was now receives queue same told shown =
-        let (is, says) = told shown in
+        → Receives got a.caller b.caller → b.queue ≡ a.queue → now ≡ was → SaysAt p A first began talk a was
+        → SaysAt p B first began (with_received (received_in got) (with_sent [] talk)) b now
+    says_received_at alike a b talk got began was now receives queue same said shown =
+        let (is, says) = said shown in
         (subst p.Shows (sym same) is, says_by A B alike b _ (says_received A a b talk got receives queue says))
 
     -- what is asked in the turn goes on what was asked before
-    pub told_turn : (Asked : List Ask → Type 0) → ((asks more : List Ask) → A asks → Asked more → B (asks ++ more))
+    pub says_turn_at : (Asked : List Ask → Type 0) → ((asks more : List Ask) → A asks → Asked more → B (asks ++ more))
         → (c d : CallerView) (before after : Option QueueView) (talk : Talked) (began was now : ℕ)
-        → TurnsOrStops p Asked was now before after c d → Told p A first began talk (talker c before) was
-        → Told p B first began (with_received [] (with_sent [] talk)) (talker d after) now
-    told_turn Asked on c d before after talk began was now (inl (at, (same, queue, nothing))) told shown =
-        let (is, says) = told shown in
+        → TurnsOrStops p Asked was now before after c d → SaysAt p A first began talk (talker c before) was
+        → SaysAt p B first began (with_received [] (with_sent [] talk)) (talker d after) now
+    says_turn_at Asked on c d before after talk began was now (inl (at, (same, queue, nothing))) said shown =
+        let (is, says) = said shown in
         let on_none : (asks : List Ask) → A asks → B asks =
         λ asks asked. subst B (append-nil asks) (on asks [] asked nothing) in (
           subst p.Shows (sym at) is,
@@ -99,8 +99,8 @@ module _ (p : Pace) (first : Talker) where
               (subst (λ q. Says p B first talk (talker c q)) (sym queue)
               (says_by A B on_none (talker c before) talk says))),
         )
-    told_turn Asked on c d before after talk began was now (inr (at, turns)) told shown =
-        let (is, says) = told shown in
+    says_turn_at Asked on c d before after talk began was now (inr (at, turns)) said shown =
+        let (is, says) = said shown in
         let (more, asked, exact) = asks_of Asked (p.Waits true) now before after (asked_again p now c) d turns in (
           at,
           says_still B (talker d after) talk (record {

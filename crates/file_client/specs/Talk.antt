@@ -1,4 +1,4 @@
--- What a client's connection says and is told.
+-- What a client's connection says and is given.
 use Rattle.std.specs.Prelude.{refl, ◌≡◌, ◌≤◌, ◌⊎◌, ℕ, ◌+◌, Bool, true, false, List, [], ◌∷◌, ◌++◌, Option, Some, None, map}
 use Rattle.file_copy.specs.Talk.{Talked, silence as nothing}
 use Rattle.chaos_packet.specs.Item.{ItemView}
@@ -155,9 +155,9 @@ pub record Says (p : Pace) (Asked : List Ask → Type 0) (first : Talker) (talk 
   pub received : whole.received ≡ talk.received
 
 -- Where it began at a moment that its clock shows, it said and heard this, and stands at such a moment.
-abbrev pub Told : Pace → (List Ask → Type 0) → Talker → ℕ → Talked → Talker → ℕ → Type 0
-Told p Asked first began talk last now = p.Shows began → p.Shows now × Says p Asked first talk last
+abbrev pub SaysAt : Pace → (List Ask → Type 0) → Talker → ℕ → Talked → Talker → ℕ → Type 0
+SaysAt p Asked first began talk last now = p.Shows began → p.Shows now × Says p Asked first talk last
 
-pub told_none : (p : Pace) (Asked : List Ask → Type 0) (c : Talker) (now : ℕ) → Asked [] → Told p Asked c now nothing c now
-told_none p Asked c now none shown =
+pub says_none_at : (p : Pace) (Asked : List Ask → Type 0) (c : Talker) (now : ℕ) → Asked [] → SaysAt p Asked c now nothing c now
+says_none_at p Asked c now none shown =
     (shown, record { whole = silence; talks = record { steps = []; goes = refl; same = refl }; asked = none; sent = refl; received = refl })

@@ -25,7 +25,7 @@ pub(crate) fn take_reply(
     requires { 0 < room_of out.old }
     ensures host { host.new ≡ (call_by host.old Read id).view }
     ensures out { out.new ≡ with_put out.old (call_by host.old Read id).packets }
-    ensures told { taken result reply.new.items ≡ data_read (call_by host.old Read id).answer }
+    ensures read { taken result reply.new.items ≡ data_read (call_by host.old Read id).answer }
 {
     let Some(id) = id else {
         return false;

@@ -7,7 +7,7 @@ ghost use Rattle.file_client.specs.Calls.{is_over};
 ghost use Rattle.file_client.specs.Caller.{Connects, HangsUp, Receives, Sends, TurnsAt, TurnsOrStops, asked_again};
 ghost use Rattle.file_client.specs.Fault.{IsTurnFault};
 ghost use Rattle.file_client.specs.Patience.{millis_waited};
-ghost use Rattle.file_client.specs.Talk.{Exchanges, SendsFarewell, Talks, Told, silence, talker, told_none};
+ghost use Rattle.file_client.specs.Talk.{Exchanges, SendsFarewell, Talks, SaysAt, silence, talker, says_none_at};
 
 use crate::client_host::ClientHost;
 use crate::driver::Driver;
@@ -208,13 +208,13 @@ impl<D: Driver> Talk for Client<'_, D> {
     /// What it wrote and what it read, turn by turn, by one clock, and that its link was asked just
     /// what these turns ask.
     ghost talked = { λ now start talk. (D.time now.driver ≡ D.time start.driver)
-        × Told (D.pace (D.time start.driver)) (D.asked now.driver start.driver)
+        × SaysAt (D.pace (D.time start.driver)) (D.asked now.driver start.driver)
         (talker start.host.now.caller (D.queue start.driver)) start.host.now.now talk
         (talker now.host.now.caller (D.queue now.driver)) now.host.now.now };
 
     ghost began = { λ client. (
       refl,
-      told_none (D.pace (D.time client.driver)) (D.asked client.driver client.driver)
+      says_none_at (D.pace (D.time client.driver)) (D.asked client.driver client.driver)
           (talker client.host.now.caller (D.queue client.driver)) client.host.now.now
           (D.began client.driver),
     ) };

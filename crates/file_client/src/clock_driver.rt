@@ -6,12 +6,12 @@ use crate::patience::Patience;
 use crate::timing::Timing;
 use chaos_host::{Host, HostDelivered};
 use chaos_link::{Carriage, LINK_ROOM, Link};
-use chaos_node::{Dial, NodeFault, TurnEnd, client_turn};
+use chaos_node::{NodeFault, ReadableClock, TurnEnd, client_turn};
 use chaos_packet::{Outbox, PktNum};
 
 /// A client's driver by a clock, over a link to another process.
 #[derive(Drop)]
-pub struct ClockDriver<'a, 'l, C: Dial, L: Link> {
+pub struct ClockDriver<'a, 'l, C: ReadableClock, L: Link> {
     /// The clock that shows the moments.
     pub clock: &'a C,
     /// The link to the other process.
@@ -22,7 +22,7 @@ pub struct ClockDriver<'a, 'l, C: Dial, L: Link> {
     buffer: [u8; LINK_ROOM],
 }
 
-impl<'a, 'l, C: Dial, L: Link> ClockDriver<'a, 'l, C, L> {
+impl<'a, 'l, C: ReadableClock, L: Link> ClockDriver<'a, 'l, C, L> {
     /// A driver of a run with this timing. Nothing is read or sent.
     pub fn new(clock: &'a C, link: &'l mut L, timing: Timing) -> Self
         // The driver goes by the clock and the timing that were handed to it.
@@ -40,7 +40,7 @@ impl<'a, 'l, C: Dial, L: Link> ClockDriver<'a, 'l, C, L> {
     }
 }
 
-impl<C: Dial, L: Link> Driver for ClockDriver<'_, '_, C, L> {
+impl<C: ReadableClock, L: Link> Driver for ClockDriver<'_, '_, C, L> {
     ghost use Rattle.std.specs.Prelude.{◌∷◌, []};
     ghost use Rattle.chaos_packet.specs.Count.{Rose};
     ghost use Rattle.file_client.specs.Pace.{clock_pace};

@@ -44,31 +44,31 @@ last_apart (x ∷ xs) (y ∷ ys) a b h =
 
 -- ---- the pieces that were read
 
-piece_told : (xs ys : List ℕ) → answer_text (read_answer xs) ≡ answer_text (read_answer ys) → xs ≡ ys
-piece_told [] [] h = refl
-piece_told [] (y ∷ ys) h =
+same_piece : (xs ys : List ℕ) → answer_text (read_answer xs) ≡ answer_text (read_answer ys) → xs ≡ ys
+same_piece [] [] h = refl
+same_piece [] (y ∷ ys) h =
     let k : answer_text AtEnd ≡ answer_text (Given (y ∷ ys)) = h ∙ ap answer_text (given (y ∷ ys) (omega arith)) in
     absurd (less_no_same 69 82 (omega arith) (ap (λ t. slice_index t 0) k))
-piece_told (x ∷ xs) [] h =
+same_piece (x ∷ xs) [] h =
     let k : answer_text AtEnd ≡ answer_text (Given (x ∷ xs)) = sym h ∙ ap answer_text (given (x ∷ xs) (omega arith)) in
     absurd (less_no_same 69 82 (omega arith) (ap (λ t. slice_index t 0) k))
-piece_told (x ∷ xs) (y ∷ ys) h =
+same_piece (x ∷ xs) (y ∷ ys) h =
     let k : answer_text (Given (x ∷ xs)) ≡ answer_text (Given (y ∷ ys)) =
     sym (ap answer_text (given (x ∷ xs) (omega arith))) ∙ h ∙ ap answer_text (given (y ∷ ys) (omega arith)) in
     append_cancel_left (answer_text (Given [])) (x ∷ xs) (y ∷ ys) k
 
-pieces_told : (tid : Tids) (handle : List ℕ) (f g : ℕ → List ℕ) (n : ℕ)
+same_pieces : (tid : Tids) (handle : List ℕ) (f g : ℕ → List ℕ) (n : ℕ)
     → upto (λ i. reply_of (tid i) handle (read_answer (f i))) n
     ≡ upto (λ i. reply_of (tid i) handle (read_answer (g i))) n
     → upto f n ≡ upto g n
-pieces_told tid handle f g zero h = refl
-pieces_told tid handle f g (suc n) h =
+same_pieces tid handle f g zero h = refl
+same_pieces tid handle f g (suc n) h =
     let p =
     last_apart (upto (λ i. reply_of (tid i) handle (read_answer (f i))) n)
     (upto (λ i. reply_of (tid i) handle (read_answer (g i))) n)
     (reply_of (tid n) handle (read_answer (f n))) (reply_of (tid n) handle (read_answer (g n))) h in
-    ap (λ l. l ++ f n ∷ []) (pieces_told tid handle f g n p.0)
-    ∙ ap (λ x. upto g n ++ x ∷ []) (piece_told (f n) (g n) (append_cancel_left (reply_front (tid n) handle) _ _ p.1))
+    ap (λ l. l ++ f n ∷ []) (same_pieces tid handle f g n p.0)
+    ∙ ap (λ x. upto g n ++ x ∷ []) (same_piece (f n) (g n) (append_cancel_left (reply_front (tid n) handle) _ _ p.1))
 
 all_pieces : (bytes : List ℕ) (n : ℕ) → length bytes ≤ MAX_CHUNK * n → flat_map (λ p. p) (upto (chunk bytes) n) ≡ bytes
 all_pieces bytes n l = pieces_front bytes n ∙ take_all (MAX_CHUNK * n) bytes l
@@ -86,7 +86,7 @@ same_file tid handle xs ys l h =
     let reads : upto (λ i. reply_of (tid (1 + i)) handle (read_answer (chunk xs i))) (1 + chunk_count (length xs))
     ≡ upto (λ i. reply_of (tid (1 + i)) handle (read_answer (chunk ys i))) n =
     (last_apart _ _ _ _ whole).0 in
-    let pieces = pieces_told (λ i. tid (1 + i)) handle (chunk xs) (chunk ys) n
+    let pieces = same_pieces (λ i. tid (1 + i)) handle (chunk xs) (chunk ys) n
     (subst
     (λ m. upto (λ i. reply_of (tid (1 + i)) handle (read_answer (chunk xs i))) (1 + chunk_count m)
     ≡ upto (λ i. reply_of (tid (1 + i)) handle (read_answer (chunk ys i))) n)

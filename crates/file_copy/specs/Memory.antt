@@ -21,8 +21,8 @@ Answered t (Some ready) = replies_from fin.empty new_session t.sent ≡ t.receiv
 Answered t None = ⊥
 
 -- these commands were sent, and as many of these replies were received
-abbrev pub told : List (List ℕ) → List (List ℕ) → ℕ → Talked
-told sent replies received = record { sent = sent; received = take received replies }
+abbrev pub talked_of : List (List ℕ) → List (List ℕ) → ℕ → Talked
+talked_of sent replies received = record { sent = sent; received = take received replies }
 
 pub nothing_more : (t : Talked) → t ≡ with_received silence.received (with_sent silence.sent t)
 nothing_more t =

@@ -158,7 +158,7 @@ fn read_all<T: Talk, O: Observer>(
 
 /// Gets a file. Where the answer is `Done`, the commands that were sent are OPEN, READs up to the
 /// one answered EOF, and CLOSE, and the bytes are those of the replies, joined, as many as OPEN and
-/// CLOSE told. The observer gets the count of the file's bytes behind the reply to OPEN, and behind
+/// CLOSE gave. The observer gets the count of the file's bytes behind the reply to OPEN, and behind
 /// each reply to a READ how many of them are here.
 ///
 /// # Errors

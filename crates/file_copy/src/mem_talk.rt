@@ -9,7 +9,7 @@ ghost use Rattle.chaos_file.specs.Grammar.{parse_of};
 ghost use Rattle.chaos_file.specs.Session.{new_session};
 ghost use Rattle.chaos_file.specs.Step.{file_step};
 ghost use Rattle.file_copy.specs.Copy.{Does};
-ghost use Rattle.file_copy.specs.Memory.{Answered, StepsOrStays, nothing_more, told};
+ghost use Rattle.file_copy.specs.Memory.{Answered, StepsOrStays, nothing_more, talked_of};
 ghost use Rattle.file_copy.specs.Talk.{Talked, counted, silence, with_received, with_sent};
 
 use crate::bytes::{copied, fill};
@@ -72,7 +72,7 @@ impl MemTalk {
     /// A server without files, and nothing sent yet. It takes no memory.
     pub fn new(alloc: Global) -> Self
         // Nothing was sent or received yet.
-        ensures talked { (told (map (λ v. v.items) result.sent.items)
+        ensures talked { (talked_of (map (λ v. v.items) result.sent.items)
             (map (λ v. v.items) result.replies.items) result.received) ≡ silence }
         // No reply is there.
         ensures ready { ⟦<MemTalk as Talk>⟧.ready result ≡ Some [] }
@@ -93,7 +93,7 @@ impl MemTalk {
         // What was sent is answered as FILE's definition says, by what was received and then by
         // what is there.
         ensures { Answered
-            (told (map (λ v. v.items) self.now.sent.items)
+            (talked_of (map (λ v. v.items) self.now.sent.items)
             (map (λ v. v.items) self.now.replies.items) self.now.received)
             (⟦<MemTalk as Talk>⟧.ready self.now) }
     {}
@@ -102,15 +102,15 @@ impl MemTalk {
 impl Talk for MemTalk {
     type NoReply = ();
 
-    ghost talked = { λ now start talk. (told (map (λ v. v.items) now.sent.items)
+    ghost talked = { λ now start talk. (talked_of (map (λ v. v.items) now.sent.items)
         (map (λ v. v.items) now.replies.items) now.received)
         ≡ with_received talk.received
         (with_sent talk.sent
-        (told (map (λ v. v.items) start.sent.items) (map (λ v. v.items) start.replies.items)
+        (talked_of (map (λ v. v.items) start.sent.items) (map (λ v. v.items) start.replies.items)
         start.received)) };
 
     ghost began = { λ talk. nothing_more
-        (told (map (λ v. v.items) talk.sent.items) (map (λ v. v.items) talk.replies.items)
+        (talked_of (map (λ v. v.items) talk.sent.items) (map (λ v. v.items) talk.replies.items)
         talk.received) };
 
     ghost ready = { λ t. Some (drop t.received (map (λ v. v.items) t.replies.items)) };

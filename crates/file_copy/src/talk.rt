@@ -34,7 +34,7 @@ pub trait Talk {
     /// Says a command where there is room for it on its way, and says whether it did.
     fn send(&mut self, command: &[u8]) -> bool
         requires { length command.now ≤ MAX_REPLY }
-        // The command is told as sent where it was taken, behind those before it, and nothing was
+        // The command counts as sent where it was taken, behind those before it, and nothing was
         // received.
         ensures sent { Since (talked self.old) (talked self.new) (sent_if result command.now) [] }
         // No reply that is there is lost.
@@ -47,7 +47,7 @@ pub trait Talk {
     /// Leaves the next reply in the caller's place, where it is there, and says so. Where it isn't,
     /// no clause says what the place holds.
     fn receive(&mut self, reply: &mut Reply) -> bool
-        // The reply that is left is told as received, behind those before it, and nothing was sent.
+        // The reply that is left counts as received, behind those before it, and nothing was sent.
         ensures received { Since (talked self.old) (talked self.new) []
             (received_in (taken result reply.new.items)) }
         // Where the talk tells which replies are there, the first of them is received, and none
@@ -90,7 +90,7 @@ pub trait Talk {
 
     /// Whether no more replies come than are there.
     fn is_over(&self) -> bool
-        // The talk is told to be over exactly where it is.
+        // The result is true exactly where the talk is over.
         ensures { result ≡ (course self.now).is_over };
 
     /// Asks for a connection, in place of one that there was.

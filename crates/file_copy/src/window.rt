@@ -165,8 +165,9 @@ fn is_late<T: Talk>(talk: &T, turns: u32, since: u64) -> bool
 /// 1,000 turns and 10 seconds. It is left in the caller's place, and it is said whether one came.
 ///
 /// The first commands are sent at once, as many as there is room for, and from then on never more
-/// are without a reply, even where the server told that it has read some of them. A command tells
-/// which replies were read: so what comes to the server last leaves it room for the next reply.
+/// are without a reply, even where the server reported that it has read some of them. A command
+/// reports which replies were read: so what comes to the server last leaves it room for the next
+/// reply.
 pub fn next_reply<T: Talk, O: Observer>(
     talk: &mut T,
     row: &Row<'_>,
@@ -247,7 +248,7 @@ pub fn ask_telling<T: Talk, O: Observer>(
     ensures all { IfOk result
         (λ came. Received (T.talked talk.old) (T.talked talk.new)
         (received_in (taken came reply.new.items))) }
-    // Where none was, it is told whether the command was sent.
+    // Where none was, it is reported whether the command was sent.
     ensures known { IfOk result
         (λ came. MatchOption (taken came reply.new.items)
         (Since (T.talked talk.old) (T.talked talk.new)

@@ -9,7 +9,7 @@ use Rattle.file_copy.specs.declared.end.CopyEnd.{CopyEnd}
 use Rattle.file_copy.specs.declared.end.CopyEnd.TheVariants as e
 use Rattle.file_copy.specs.Ends.{IfDone}
 use Rattle.file_client.specs.Pace.{Pace}
-use Rattle.file_client.specs.Talk.{Talker, Step, Says, Told, talk_of}
+use Rattle.file_client.specs.Talk.{Talker, Step, Says, SaysAt, talk_of}
 use Rattle.file_client.specs.declared.client.Client.{Client}
 use Rattle.file_client.specs.declared.clock_driver.ClockDriver.{ClockDriver}
 use Rattle.file_net.specs.FileNet.{FileNet}
@@ -49,12 +49,12 @@ copied_by m p Asked first last copy says f a c w g served same user idle can =
 pub copies_in_worlds : {C L S : Type 0} (shows : C → ℕ → Type 0) (queue : L → Option QueueView)
     (asked : L → L → List Ask → Type 0) (contents : S → Option Files)
     (may_give : S → List ℕ → ℕ → List ℕ → Type 0) (count : S → ℕ) (old new : Client (ClockDriver C L)) (copy : Copy)
-    → Told (pace_of shows old) (asked new.driver.link.now old.driver.link.now) (engine_of queue old) old.host.now.now
+    → SaysAt (pace_of shows old) (asked new.driver.link.now old.driver.link.now) (engine_of queue old) old.host.now.now
     (record { sent = commands_of copy; received = replies_of copy }) (engine_of queue new) new.host.now.now
     → CopiesInWorlds shows queue asked contents may_give count old new copy
-copies_in_worlds {C} {L} {S} shows queue asked contents may_give count old new copy told shown =
+copies_in_worlds {C} {L} {S} shows queue asked contents may_give count old new copy said shown =
     let p = pace_of shows old in
-    let (is, says) = told shown in (
+    let (is, says) = said shown in (
       says,
       λ m k w f a c stands calling first none.
           weaker contents may_give count m p (IsServed m f a c) (IsCopiedBy m says.talks.steps copy f a c)

@@ -16,7 +16,7 @@ ghost use Rattle.file_end_to_end.specs.World.{ConnectionsAreAsked, ConnectionsOp
 use chaos_file::Store;
 use chaos_link::Link;
 use chaos_net::law_network;
-use chaos_node::Dial;
+use chaos_node::ReadableClock;
 
 /// The law of the turns of a server, on the network. Let the other host have sent each packet that
 /// came, and let each packet be fresh.
@@ -81,7 +81,7 @@ pub fn law_file_systems<S: Store>()
 
 /// The law from a client's engine to the files: an engine and a server of FILE at their links, and
 /// the datagrams between the two. A datagram may be lost, late, repeated or out of order.
-pub fn law_world<C: Dial, S: Store>()
+pub fn law_world<C: ReadableClock, S: Store>()
     // There is a file net behind a new engine that asks for FILE and a new server. The requests
     // that the engine gave up before its first turn count as posted and lost. By `stay` of
     // `law_file_systems` there is a file net after all their turns.

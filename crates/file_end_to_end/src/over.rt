@@ -9,7 +9,7 @@ ghost use Rattle.file_end_to_end.specs.Over.{CopiesInWorlds};
 
 use chaos_file::Store;
 use chaos_link::Link;
-use chaos_node::{Dial, NodeFault};
+use chaos_node::{NodeFault, ReadableClock};
 use file_client::{Client, ClockDriver};
 use file_copy::{CopyEnd, Observer, get_file, put_file};
 
@@ -18,7 +18,7 @@ use file_copy::{CopyEnd, Observer, get_file, put_file};
 ///
 /// # Errors
 /// The errors of [`get_file`].
-pub fn get_over<C: Dial, L: Link, S: Store, O: Observer>(
+pub fn get_over<C: ReadableClock, L: Link, S: Store, O: Observer>(
     call: &mut Client<'_, ClockDriver<'_, '_, C, L>>,
     first: u32,
     path: &[u8],
@@ -42,7 +42,7 @@ pub fn get_over<C: Dial, L: Link, S: Store, O: Observer>(
 ///
 /// # Errors
 /// The errors of [`put_file`].
-pub fn put_over<C: Dial, L: Link, S: Store, O: Observer>(
+pub fn put_over<C: ReadableClock, L: Link, S: Store, O: Observer>(
     call: &mut Client<'_, ClockDriver<'_, '_, C, L>>,
     first: u32,
     path: &[u8],

@@ -12,7 +12,7 @@ use Rattle.file_transfer.specs.declared.outcome.Outcome.{Outcome}
 use Rattle.file_transfer.specs.declared.outcome.Outcome.TheVariants as o
 use Rattle.file_transfer.specs.Status.{worse, is_done}
 use Rattle.file_transfer.specs.Outcome.{status_of, status_of_kind, status_of_node, is_well, goes_on}
-use Rattle.file_transfer.specs.Runs.{Told, Tried, Tries, none, tried, left, Runs, worst_from, all_well, told_after, told_of}
+use Rattle.file_transfer.specs.Runs.{Reported, Tried, Tries, none, tried, left, Runs, worst_from, all_well, reported_after, reported_of}
 
 worst_more : {F W : Type 0} (status : ExitStatus) (files : List (Tried F W)) (file : Tried F W)
     → worst_from status (files ++ file ∷ []) ≡ worse (worst_from status files) (status_of file.outcome)
@@ -92,50 +92,50 @@ files_more : {F W : Type 0} (files : List (Tried F W)) (file : Tried F W)
 files_more [] file = refl
 files_more (first ∷ files) file = ap (λ fs. first.file ∷ fs) (files_more files file)
 
-told_of_more : {F W : Type 0} (name : F → List ℕ) (files : List (Tried F W)) (file : Tried F W)
-    → told_of name (files ++ file ∷ [])
-    ≡ told_of name files ++ record { name = name file.file; outcome = file.outcome } ∷ []
-told_of_more name [] file = refl
-told_of_more name (first ∷ files) file =
-    ap (λ fs. record { name = name first.file; outcome = first.outcome } ∷ fs) (told_of_more name files file)
+reported_of_more : {F W : Type 0} (name : F → List ℕ) (files : List (Tried F W)) (file : Tried F W)
+    → reported_of name (files ++ file ∷ [])
+    ≡ reported_of name files ++ record { name = name file.file; outcome = file.outcome } ∷ []
+reported_of_more name [] file = refl
+reported_of_more name (first ∷ files) file =
+    ap (λ fs. record { name = name first.file; outcome = first.outcome } ∷ fs) (reported_of_more name files file)
 
-told_none : {W : Type 0} (told : Option (List (Told W))) → told ≡ told_after [] told
-told_none None = refl
-told_none (Some before) = ap Some (sym (append-nil before))
+reported_none : {W : Type 0} (reported : Option (List (Reported W))) → reported ≡ reported_after [] reported
+reported_none None = refl
+reported_none (Some before) = ap Some (sym (append-nil before))
 
-told_more : {W : Type 0} (files : List (Told W)) (file : Told W) (told : Option (List (Told W)))
-    → told_after (file ∷ []) (told_after files told) ≡ told_after (files ++ file ∷ []) told
-told_more files file None = refl
-told_more files file (Some before) = ap Some (append_assoc before files (file ∷ []))
+reported_more : {W : Type 0} (files : List (Reported W)) (file : Reported W) (reported : Option (List (Reported W)))
+    → reported_after (file ∷ []) (reported_after files reported) ≡ reported_after (files ++ file ∷ []) reported
+reported_more files file None = refl
+reported_more files file (Some before) = ap Some (append_assoc before files (file ∷ []))
 
 module _ {C F W : Type 0} (one : C → F → Outcome W → C → Type 0) (name : F → List ℕ) (start : C)
-    (told : Option (List (Told W))) where
-  pub began : Runs one name start told [] s.Done true start told
+    (reported : Option (List (Reported W))) where
+  pub began : Runs one name start reported [] s.Done true start reported
   began = record {
     tries = [];
     files_are = refl;
     tried = none;
-    telling = told_none told;
+    reporting = reported_none reported;
     worst = refl;
     all = refl;
   }
 
   more : (files : List F) (status : ExitStatus) (goes goes_then : Bool) (c d : C)
-      (told_now : Option (List (Told W))) (file : F) (outcome : Outcome W)
-      → (run : Runs one name start told files status goes c told_now)
+      (reported_now : Option (List (Reported W))) (file : F) (outcome : Outcome W)
+      → (run : Runs one name start reported files status goes c reported_now)
       → Tries one start (run.tries ++ record { file = file; outcome = outcome } ∷ []) goes_then d
-      → Runs one name start told (files ++ file ∷ []) (worse status (status_of outcome)) goes_then d
-      (told_after (record { name = name file; outcome = outcome } ∷ []) told_now)
-  more files status goes goes_then c d told_now file outcome run then =
+      → Runs one name start reported (files ++ file ∷ []) (worse status (status_of outcome)) goes_then d
+      (reported_after (record { name = name file; outcome = outcome } ∷ []) reported_now)
+  more files status goes goes_then c d reported_now file outcome run then =
       let this : Tried F W = record { file = file; outcome = outcome } in
-      let word : Told W = record { name = name file; outcome = outcome } in
+      let word : Reported W = record { name = name file; outcome = outcome } in
       record {
         tries = run.tries ++ this ∷ [];
         files_are = files_more run.tries this ∙ ap (λ fs. fs ++ file ∷ []) run.files_are;
         tried = then;
-        telling =
-            ap (λ t. told_after (word ∷ []) t) run.telling ∙ told_more (told_of name run.tries) word told
-            ∙ ap (λ fs. told_after fs told) (sym (told_of_more name run.tries this));
+        reporting =
+            ap (λ t. reported_after (word ∷ []) t) run.reporting ∙ reported_more (reported_of name run.tries) word reported
+            ∙ ap (λ fs. reported_after fs reported) (sym (reported_of_more name run.tries this));
         worst = ap (λ st. worse st (status_of outcome)) run.worst ∙ sym (worst_more s.Done run.tries this);
         all =
             done_worse status (status_of outcome) ∙ ap (λ b. is_done status && b) (done_well outcome)
@@ -143,19 +143,19 @@ module _ {C F W : Type 0} (one : C → F → Outcome W → C → Type 0) (name :
       }
 
   -- one file more, which was tried
-  pub one_tried : (files : List F) (status : ExitStatus) (c d : C) (told_now : Option (List (Told W))) (file : F)
+  pub one_tried : (files : List F) (status : ExitStatus) (c d : C) (reported_now : Option (List (Reported W))) (file : F)
       (outcome : Outcome W)
-      → one c file outcome d → Runs one name start told files status true c told_now
-      → Runs one name start told (files ++ file ∷ []) (worse status (status_of outcome)) (goes_on outcome) d
-      (told_after (record { name = name file; outcome = outcome } ∷ []) told_now)
-  one_tried files status c d told_now file outcome fact run =
-      more files status true (goes_on outcome) c d told_now file outcome run
+      → one c file outcome d → Runs one name start reported files status true c reported_now
+      → Runs one name start reported (files ++ file ∷ []) (worse status (status_of outcome)) (goes_on outcome) d
+      (reported_after (record { name = name file; outcome = outcome } ∷ []) reported_now)
+  one_tried files status c d reported_now file outcome fact run =
+      more files status true (goes_on outcome) c d reported_now file outcome run
       (tried run.tries c d file outcome run.tried fact)
 
   -- one file more, which was left
-  pub one_left : (files : List F) (status : ExitStatus) (c : C) (told_now : Option (List (Told W))) (file : F)
-      → Runs one name start told files status false c told_now
-      → Runs one name start told (files ++ file ∷ []) (worse status s.Refused) false c
-      (told_after (record { name = name file; outcome = o.NotTried } ∷ []) told_now)
-  one_left files status c told_now file run =
-      more files status false false c c told_now file o.NotTried run (left run.tries c file run.tried)
+  pub one_left : (files : List F) (status : ExitStatus) (c : C) (reported_now : Option (List (Reported W))) (file : F)
+      → Runs one name start reported files status false c reported_now
+      → Runs one name start reported (files ++ file ∷ []) (worse status s.Refused) false c
+      (reported_after (record { name = name file; outcome = o.NotTried } ∷ []) reported_now)
+  one_left files status c reported_now file run =
+      more files status false false c c reported_now file o.NotTried run (left run.tries c file run.tried)

@@ -13,13 +13,13 @@ use Rattle.file_transfer.specs.declared.outcome.Contents.{Contents}
 -- ---- local files
 
 -- a local file that was written whole
-pub record Kept : Type 0 where
+pub record WrittenFile : Type 0 where
   pub name : List ℕ
   pub bytes : List ℕ
 
 -- the files that were written, and this one behind them
-abbrev pub kept_after : List ℕ → List ℕ → Option (List Kept) → Option (List Kept)
-kept_after name bytes kept = option_map (λ before. before ++ record { name = name; bytes = bytes } ∷ []) kept
+abbrev pub written_after : List ℕ → List ℕ → Option (List WrittenFile) → Option (List WrittenFile)
+written_after name bytes written = option_map (λ before. before ++ record { name = name; bytes = bytes } ∷ []) written
 
 -- ---- texts
 
@@ -64,10 +64,10 @@ contents_of true bytes = record { size = length bytes; digest = Some (sha256 byt
 contents_of false bytes = record { size = length bytes; digest = None }
 
 -- These bytes were got, and then written whole here, as a text where that is asked for.
-abbrev pub GetsWhole : {T : Type 0} → List ℕ → List ℕ → Bool → Bool → Contents → History T → Option (List Kept)
-    → Option (List Kept) → Type 0
+abbrev pub GetsWhole : {T : Type 0} → List ℕ → List ℕ → Bool → Bool → Contents → History T → Option (List WrittenFile)
+    → Option (List WrittenFile) → Type 0
 GetsWhole path local is_text is_digested contents talked before after = (bytes : List ℕ) × HasGot path bytes talked
-    × (after ≡ kept_after local (bytes_in Ascii is_text bytes) before)
+    × (after ≡ written_after local (bytes_in Ascii is_text bytes) before)
     × (contents ≡ contents_of is_digested (bytes_in Ascii is_text bytes))
 
 -- All that this file has here was put, as a text where that is asked for.

@@ -13,13 +13,13 @@ pub record Tried (F W : Type 0) : Type 0 where
   pub file : F
   pub outcome : Outcome W
 
--- what is told of it, under its name
-pub record Told (W : Type 0) : Type 0 where
+-- what is reported of it, under its name
+pub record Reported (W : Type 0) : Type 0 where
   pub name : List ℕ
   pub outcome : Outcome W
 
-abbrev pub told_of : {F W : Type 0} → (F → List ℕ) → List (Tried F W) → List (Told W)
-told_of name files = map (λ f. record { name = name f.file; outcome = f.outcome }) files
+abbrev pub reported_of : {F W : Type 0} → (F → List ℕ) → List (Tried F W) → List (Reported W)
+reported_of name files = map (λ f. record { name = name f.file; outcome = f.outcome }) files
 
 -- the worst of a status and of what came of files
 abbrev pub worst_from : {F W : Type 0} → ExitStatus → List (Tried F W) → ExitStatus
@@ -29,9 +29,9 @@ worst_from status (file ∷ files) = worst_from (worse status (status_of file.ou
 abbrev pub all_well : {F W : Type 0} → List (Tried F W) → Bool
 all_well files = list_all (λ file. is_well file.outcome) files
 
--- what was told, and these files behind it
-abbrev pub told_after : {W : Type 0} → List (Told W) → Option (List (Told W)) → Option (List (Told W))
-told_after files told = option_map (λ before. before ++ files) told
+-- what was reported, and these files behind it
+abbrev pub reported_after : {W : Type 0} → List (Reported W) → Option (List (Reported W)) → Option (List (Reported W))
+reported_after files reported = option_map (λ before. before ++ files) reported
 
 -- From a state on, files were tried one after another, with what came of each; once one ends the run, those behind it
 -- aren't tried.
@@ -44,15 +44,15 @@ pub data Tries {C F W : Type 0} (one : C → F → Outcome W → C → Type 0) (
   left : (files : List (Tried F W)) (c : C) (file : F) → Tries one start files false c
       → Tries one start (files ++ record { file = file; outcome = NotTried } ∷ []) false c
 
--- A run over these files: what came of each was told under its name, in their order, its status is the worst, and all is
+-- A run over these files: what came of each was reported under its name, in their order, its status is the worst, and all is
 -- well exactly where what was asked for was done with each.
 pub record Runs {C F W : Type 0} (one : C → F → Outcome W → C → Type 0) (name : F → List ℕ) (start : C)
-    (told : Option (List (Told W))) (files : List F) (status : ExitStatus) (goes : Bool) (now : C)
-    (told_now : Option (List (Told W))) : Type 0
+    (reported : Option (List (Reported W))) (files : List F) (status : ExitStatus) (goes : Bool) (now : C)
+    (reported_now : Option (List (Reported W))) : Type 0
   where
     pub tries : List (Tried F W)
     pub files_are : map (λ t. t.file) tries ≡ files
     pub tried : Tries one start tries goes now
-    pub telling : told_now ≡ told_after (told_of name tries) told
+    pub reporting : reported_now ≡ reported_after (reported_of name tries) reported
     pub worst : status ≡ worst_from s.Done tries
     pub all : is_done status ≡ all_well tries

@@ -1,7 +1,7 @@
 //! The files of the system, and standard input and output in the place of one.
 ghost use Rattle.std.specs.Prelude.{None};
 
-use crate::local::Locals;
+use crate::local_files::LocalFiles;
 use crate::source::open_source;
 use crate::stream::{STDOUT, check_stream, write_stream};
 use crate::whole::{check_whole, write_at};
@@ -55,8 +55,8 @@ impl<'a, R> Disk<'a, R> {
     }
 }
 
-impl<R: AllocGlobal + Files<File = File> + Input + Print> Locals for Disk<'_, R> {
-    ghost kept = { λ _. None };
+impl<R: AllocGlobal + Files<File = File> + Input + Print> LocalFiles for Disk<'_, R> {
+    ghost written = { λ _. None };
 
     ghost held = { λ _ _. None };
 

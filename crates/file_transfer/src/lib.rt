@@ -1,41 +1,41 @@
 //! Files that are copied, one after another, between local ones and another host's: which goes
-//! where, what is told of each, and how a run ends.
+//! where, what is reported of each, and how a run ends.
 //!
 //! It stands on no socket and prints nothing: its user hands in the connection (a [`Talk`]), the
-//! local files ([`Locals`]), whom to tell ([`Teller`]) and whom to show how far a file has come
-//! ([`Viewer`]).
+//! local files ([`LocalFiles`]), whom to report to ([`OutcomeSink`]) and whom to show how far a file
+//! has come ([`ProgressSink`]).
 #![tactic(auto)]
 
-mod copier;
-mod deletes;
+mod delete_files;
 mod disk;
-mod gets;
+mod file_task;
+mod get_files;
 mod kind;
-mod local;
+mod local_files;
 mod naming;
 mod outcome;
 mod progress;
-mod puts;
+mod progress_sink;
+mod put_files;
 mod session;
 mod settling;
 mod source;
 mod status;
 mod stream;
 mod text;
-mod viewer;
 mod whole;
 
-pub use copier::{Copier, Teller, run_copies};
-pub use deletes::Deletes;
+pub use delete_files::DeleteFiles;
 pub use disk::{Disk, STREAM};
-pub use gets::Gets;
-pub use local::Locals;
-pub use naming::{Named, PutFile, Target};
+pub use file_task::{FileTask, OutcomeSink, run_copies};
+pub use get_files::GetFiles;
+pub use local_files::LocalFiles;
+pub use naming::{Destination, Named, PutFile};
 pub use outcome::{Contents, Outcome};
 pub use progress::{Progress, SHOW_MILLIS, Share, law_limits};
-pub use puts::Puts;
+pub use progress_sink::ProgressSink;
+pub use put_files::PutFiles;
 pub use session::Session;
 pub use settling::settle;
 pub use status::ExitStatus;
 pub use text::Lost;
-pub use viewer::Viewer;

@@ -7,22 +7,22 @@ use std::alloc::{AllocError, Global};
 
 /// Where files that are got go.
 #[derive(Clone, Copy, Debug)]
-pub enum Target<'a> {
+pub enum Destination<'a> {
     /// Each to a local file of its own name.
-    Own,
+    SameName,
     /// To the local file of this name.
-    Named(&'a str),
+    File(&'a str),
     /// Each to a file of its own name in this folder, which ends with a slash.
-    Inside(&'a str),
+    Folder(&'a str),
 }
 
-impl<'a> Target<'a> {
+impl<'a> Destination<'a> {
     /// What the user says of it: nothing, a folder, which ends with a slash, or a file.
     pub fn of(output: Option<&'a str>) -> Self {
         match output {
-            None => Target::Own,
-            Some(name) if name.ends_with('/') => Target::Inside(name),
-            Some(name) => Target::Named(name),
+            None => Destination::SameName,
+            Some(name) if name.ends_with('/') => Destination::Folder(name),
+            Some(name) => Destination::File(name),
         }
     }
 
@@ -34,9 +34,9 @@ impl<'a> Target<'a> {
     {
         let mut name = String::new(alloc);
         match self {
-            Target::Own => name.push_str(path)?,
-            Target::Named(given) => name.push_str(given)?,
-            Target::Inside(folder) => {
+            Destination::SameName => name.push_str(path)?,
+            Destination::File(given) => name.push_str(given)?,
+            Destination::Folder(folder) => {
                 name.push_str(folder)?;
                 name.push_str(path)?;
             }

@@ -142,7 +142,7 @@ impl<W> Outcome<W> {
 
     /// What came of a change that was made, or else of one that wasn't.
     pub fn of_change(tried: Result<(), Self>) -> Self
-        // A change that was made is told as such, and what came of any other stays.
+        // A change that was made is reported as such, and what came of any other stays.
         ensures { MatchResult tried (λ _. result ≡ Outcome.Changed) (λ outcome. result ≡ outcome) }
     {
         match tried {

@@ -7,8 +7,8 @@ ghost use Rattle.file_transfer.specs.Settling.{ComesTo, change_end};
 ghost use Rattle.file_transfer.specs.Outcome.{is_well};
 
 use crate::outcome::Outcome;
+use crate::progress_sink::ProgressSink;
 use crate::settling::{change_end, settle};
-use crate::viewer::Viewer;
 use chaos_node::NodeFault;
 use file_copy::{CopyEnd, Talk, delete_file, get_file, log_in, put_file, rename_file};
 
@@ -20,27 +20,27 @@ const FIRST: u32 = 1;
 /// A user who copies files over a connection, which is made anew after a file that wasn't copied:
 /// then replies may still be on their way.
 #[derive(Drop)]
-pub struct Session<'a, T: Talk, V: Viewer> {
+pub struct Session<'a, T: Talk, V: ProgressSink> {
     /// The talk with the server.
     pub talk: T,
     /// Whoever is shown how far a file has come.
-    pub viewer: V,
+    pub progress: V,
     login: &'a str,
     /// Whether the user has logged in, and every reply was received.
     is_in: bool,
     ghost login_fits: { length login.now ≤ MAX_NAME },
 }
 
-impl<'a, T: Talk, V: Viewer> Session<'a, T, V> {
+impl<'a, T: Talk, V: ProgressSink> Session<'a, T, V> {
     /// Nothing is sent yet.
-    pub fn new(talk: T, viewer: V, login: &'a str) -> Self
+    pub fn new(talk: T, progress: V, login: &'a str) -> Self
         requires { length login.now ≤ MAX_NAME }
-        // The session has the talk and the viewer that were handed in.
-        ensures { (result.talk ≡ talk) × (result.viewer ≡ viewer) }
+        // The session has the talk and the progress sink that were handed in.
+        ensures { (result.talk ≡ talk) × (result.progress ≡ progress) }
     {
         Session {
             talk,
-            viewer,
+            progress,
             login,
             is_in: false,
         }
@@ -52,7 +52,7 @@ impl<'a, T: Talk, V: Viewer> Session<'a, T, V> {
             return Ok(CopyEnd::Done);
         }
         self.talk.connect()?;
-        log_in(&mut self.talk, self.login.as_bytes(), &mut self.viewer)
+        log_in(&mut self.talk, self.login.as_bytes(), &mut self.progress)
     }
 
     /// Makes sure that there is a connection and that the user has logged in.
@@ -70,8 +70,8 @@ impl<'a, T: Talk, V: Viewer> Session<'a, T, V> {
         ensures { IfDone result
             (HasGot path.now bytes.new.items (T.talked self.new.talk)) }
     {
-        let end = get_file(&mut self.talk, FIRST, path, bytes, &mut self.viewer);
-        self.viewer.end();
+        let end = get_file(&mut self.talk, FIRST, path, bytes, &mut self.progress);
+        self.progress.end();
         self.is_in = matches!(end, Ok(CopyEnd::Done));
         end
     }
@@ -85,7 +85,7 @@ impl<'a, T: Talk, V: Viewer> Session<'a, T, V> {
         ensures missed { IfErr result (λ outcome. is_well outcome ≡ false) }
     {
         self.enter()?;
-        self.viewer.begin(path, self.talk.moment());
+        self.progress.begin(path, self.talk.moment());
         let end = self.get_on(path.as_bytes(), bytes);
         settle(&mut self.talk, end)
     }
@@ -96,8 +96,8 @@ impl<'a, T: Talk, V: Viewer> Session<'a, T, V> {
         requires fits { length bytes.now ≤ MAX_FILE }
         ensures { IfDone result (HasPut path.now bytes.now (T.talked self.new.talk)) }
     {
-        let end = put_file(&mut self.talk, FIRST, path, bytes, &mut self.viewer);
-        self.viewer.end();
+        let end = put_file(&mut self.talk, FIRST, path, bytes, &mut self.progress);
+        self.progress.end();
         self.is_in = matches!(end, Ok(CopyEnd::Done));
         end
     }
@@ -115,7 +115,7 @@ impl<'a, T: Talk, V: Viewer> Session<'a, T, V> {
         ensures missed { IfErr result (λ outcome. is_well outcome ≡ false) }
     {
         self.enter()?;
-        self.viewer.begin(local, self.talk.moment());
+        self.progress.begin(local, self.talk.moment());
         let end = self.put_on(path, bytes);
         settle(&mut self.talk, end)
     }
@@ -145,7 +145,7 @@ impl<'a, T: Talk, V: Viewer> Session<'a, T, V> {
         ensures missed { IfErr result (λ outcome. is_well outcome ≡ false) }
     {
         self.enter()?;
-        let end = delete_file(&mut self.talk, FIRST, path, &mut self.viewer);
+        let end = delete_file(&mut self.talk, FIRST, path, &mut self.progress);
         self.settle_change(end)
     }
 
@@ -164,16 +164,16 @@ impl<'a, T: Talk, V: Viewer> Session<'a, T, V> {
         ensures missed { IfErr result (λ outcome. is_well outcome ≡ false) }
     {
         self.enter()?;
-        let end = rename_file(&mut self.talk, FIRST, old, new, &mut self.viewer);
+        let end = rename_file(&mut self.talk, FIRST, old, new, &mut self.progress);
         self.settle_change(end)
     }
 
     /// Ends the connection, at once where nobody is there to reply. What fails then changes nothing
     /// of what was copied.
     pub fn end(&mut self)
-        // The viewer stays as it is.
-        ensures { self.new.viewer ≡ self.old.viewer }
+        // The progress sink stays as it is.
+        ensures { self.new.progress ≡ self.old.progress }
     {
-        self.talk.end(!self.viewer.is_gone());
+        self.talk.end(!self.progress.is_gone());
     }
 }

@@ -4,7 +4,7 @@ ghost use Rattle.file_transfer.specs.Status.{number_of, fault_status, rank, wors
 
 use chaosd_io::RunFault;
 
-/// How a program ended, from well to worst: of several runs the worst is told.
+/// How a program ended, from well to worst: of several runs the worst is reported.
 #[derive(Clone, Copy, Debug, PartialEq, Eq, PartialOrd, Ord)]
 pub enum ExitStatus {
     /// All was done that was asked for. Its number is 0.

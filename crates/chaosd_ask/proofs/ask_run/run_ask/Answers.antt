@@ -4,8 +4,8 @@ use Rattle.chaosd_ask.proofs.ask_run.run_ask.Goals as goal
 
 pub returns-clause-talk : goal.returns-clause-talk
 returns-clause-talk g c =
-    by_clock _ _ c.run_script.result c.in_ok-epoch.epoch c.in_ok-epoch.ensures.begins
-    (asked_link _ _ _ _ _ _ _ _ _ _ _ c.run_script.result
+    by_clock _ _ c.ask_script.result c.in_ok-epoch.epoch c.in_ok-epoch.ensures.begins
+    (asked_link _ _ _ _ _ _ _ _ _ _ _ c.ask_script.result
     (rw (
       c.in_ok-host.ensures.made,
       c.passed-passed.ensures,
@@ -15,5 +15,5 @@ returns-clause-talk g c =
       c.usual-timing.ensures,
       c.file.ensures,
       c.usual.ensures,
-    ) at c.run_script.ensures.talk)
+    ) at c.ask_script.ensures.talk)
     (search rules) (search rules))

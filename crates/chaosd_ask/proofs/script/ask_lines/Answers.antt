@@ -221,10 +221,10 @@ returns-clause-runs g c =
     (talker c.match-last.client.host.now.caller (g.D.Driver.queue c.match-last.client.driver)) _ _ _ _ c.match-last.replied
     (elim c.match-last.branch [
       | in-Some+in_ok-ask_line-2+else-not-branch-3 w ↦
-          rw (w.client-is, w.places-is, w.writer-is, w.replied-is)
+          rw (w.client-is, w.buffers-is, w.writer-is, w.replied-is)
           (last_asked _ _ _ _ _ _ _ _ _ c.lines.replied given _ asked (w.in-Some.ensures _ _ _ given end.0 end.2)
           (rw (w.if-not-branch-3.false, time) at w.in_ok-ask_line-2.ensures.asks))
-      | in_default w ↦ rw (w.client-is, w.places-is, w.writer-is, w.replied-is)
+      | in_default w ↦ rw (w.client-is, w.buffers-is, w.writer-is, w.replied-is)
           (given, asked, w.in_default.ensures _ _ _ given end.0 end.2)
     ])
 
@@ -248,10 +248,10 @@ returns-clause-talk g c =
     (g.R.Read.remaining c.refill.new.reader) _ _ c.match-last.replied
     (elim c.match-last.branch [
       | in-Some+in_ok-ask_line-2+else-not-branch-3 w ↦
-          rw (w.client-is, w.places-is, w.writer-is, w.replied-is)
+          rw (w.client-is, w.buffers-is, w.writer-is, w.replied-is)
           (last_asked _ _ _ _ _ _ _ _ _ c.lines.replied given _ asked (w.in-Some.ensures _ _ _ given end.0 end.2)
           (rw (w.if-not-branch-3.false, time) at w.in_ok-ask_line-2.ensures.asks))
-      | in_default w ↦ rw (w.client-is, w.places-is, w.writer-is, w.replied-is)
+      | in_default w ↦ rw (w.client-is, w.buffers-is, w.writer-is, w.replied-is)
           (given, asked, w.in_default.ensures _ _ _ given end.0 end.2)
     ])
     (farewell_of _ Anything (λ asks asked. tt) _ _ _ (rw same at c.in_ok-take_leave.ensures.talk))
@@ -329,7 +329,7 @@ returns-clause-noted g c =
     noted_to_end _ _ c.match-last.replied _
     (elim c.match-last.branch [
       | in-Some+in_ok-ask_line-2+else-not-branch-3 w ↦
-          rw (w.places-is, w.writer-is, w.replied-is)
+          rw (w.buffers-is, w.writer-is, w.replied-is)
           (noted_more c.lines.replied _ _ _ _ _ before (rw w.if-not-branch-3.false at w.in_ok-ask_line-2.ensures.notes))
-      | in_default w ↦ rw (w.places-is, w.writer-is, w.replied-is) before
+      | in_default w ↦ rw (w.buffers-is, w.writer-is, w.replied-is) before
     ])

@@ -18,10 +18,10 @@ invariant-lines g l = record {
   asked : AskedGiven (g.D.Driver.pace (g.D.Driver.time l.fn.client.driver))
       (talker l.fn.client.host.now.caller (g.D.Driver.queue l.fn.client.driver)) (talker l.client.host.now.caller (g.D.Driver.queue l.client.driver))
       (g.R.Read.remaining l.fn.reader) (g.R.Read.remaining l.reader)
-      (written_of (g.W.Write.contents l.fn.writer) l.fn.places.out) (written_of (g.W.Write.contents l.writer) l.places.out) l.replied
+      (written_of (g.W.Write.contents l.fn.writer) l.fn.buffers.out) (written_of (g.W.Write.contents l.writer) l.buffers.out) l.replied
       l.lines;
-  noted : NotesReplies l.replied (written_of (g.W.Write.contents l.fn.writer) l.fn.places.out)
-      (written_of (g.W.Write.contents l.writer) l.places.out) l.places.notes.replies;
+  noted : NotesReplies l.replied (written_of (g.W.Write.contents l.fn.writer) l.fn.buffers.out)
+      (written_of (g.W.Write.contents l.writer) l.buffers.out) l.buffers.notes.replies;
 }
 
 -- fewer bytes wait
@@ -38,10 +38,10 @@ invariant-reads g l = record {
   asked : AskedGiven (g.D.Driver.pace (g.D.Driver.time l.fn.client.driver))
       (talker l.fn.client.host.now.caller (g.D.Driver.queue l.fn.client.driver)) (talker l.client.host.now.caller (g.D.Driver.queue l.client.driver))
       (g.R.Read.remaining l.fn.reader) (g.R.Read.remaining l.reader)
-      (written_of (g.W.Write.contents l.fn.writer) l.fn.places.out) (written_of (g.W.Write.contents l.writer) l.places.out) l.replied
+      (written_of (g.W.Write.contents l.fn.writer) l.fn.buffers.out) (written_of (g.W.Write.contents l.writer) l.buffers.out) l.replied
       l.lines;
-  noted : NotesReplies l.replied (written_of (g.W.Write.contents l.fn.writer) l.fn.places.out)
-      (written_of (g.W.Write.contents l.writer) l.places.out) l.places.notes.replies;
+  noted : NotesReplies l.replied (written_of (g.W.Write.contents l.fn.writer) l.fn.buffers.out)
+      (written_of (g.W.Write.contents l.writer) l.buffers.out) l.buffers.notes.replies;
 }
 
 -- fewer bytes may come

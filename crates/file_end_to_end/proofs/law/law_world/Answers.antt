@@ -11,5 +11,5 @@ returns g c = record {
   asked = λ m. connections_are_asked g.S.Store.contents g.S.Store.may_give g.S.Store.count m;
   opened = λ m. connections_open g.S.Store.contents m;
   last = λ m clock timing.
-      worlds_last g.S.Store.contents g.S.Store.may_give g.S.Store.count m (clock_pace (g.C.Dial.shows clock) timing);
+      worlds_last g.S.Store.contents g.S.Store.may_give g.S.Store.count m (clock_pace (g.C.ReadableClock.shows clock) timing);
 }

@@ -7,7 +7,7 @@ returns-in-Ok-clause-reads g c = record {
   goes = λ first earlier h. (
     h.0,
     h.1,
-    shown_more g.C.Dial.shows c.args.self.now.clock.now first.clock.now c.args.self.now.epoch first.epoch first.last
+    shown_more g.C.ReadableClock.shows c.args.self.now.clock.now first.clock.now c.args.self.now.epoch first.epoch first.last
         c.args.self.now.last c.in-Ok.moment earlier h.0 h.1 h.2 c.in-Ok.ensures.moment,
   );
 }
@@ -17,6 +17,6 @@ returns-in-Err-clause-reads g c = record {
   goes = λ first earlier h. (
     h.0,
     h.1,
-    shown_again (g.C.Dial.shows first.clock.now) first.epoch first.last c.args.self.now.last earlier h.2,
+    shown_again (g.C.ReadableClock.shows first.clock.now) first.epoch first.last c.args.self.now.last earlier h.2,
   );
 }

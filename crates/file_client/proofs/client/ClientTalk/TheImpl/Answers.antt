@@ -5,7 +5,7 @@ use Rattle.file_copy.specs.Talk.{counted}
 use Rattle.file_client.specs.Caller.{TurnsOrStops}
 use Rattle.file_client.specs.Fault.{IsTurnFault}
 use Rattle.file_client.specs.Patience.{millis_waited}
-use Rattle.file_client.proofs.Telling.{told_sent, told_received, told_turn}
+use Rattle.file_client.proofs.Telling.{says_sent_at, says_received_at, says_turn_at}
 use Rattle.file_client.proofs.client.ClientTalk.TheImpl.Goals as goal
 
 pub send-tells : goal.send-tells
@@ -13,7 +13,7 @@ send-tells g i c = record {
   sent = record {
     goes = λ first talk h. (
       ap g.D.Driver.time c.ensures.same.0 ∙ h.0,
-      told_sent _ _ _ _
+      says_sent_at _ _ _ _
           (λ asks was. subst (λ d. g.D.Driver.asked d first.driver asks) (sym c.ensures.same.0) was) _ _ talk _ _ _ _ _
           c.ensures.sent (ap g.D.Driver.queue c.ensures.same.0) c.ensures.same.1 h.1,
     );
@@ -29,7 +29,7 @@ receive-tells g i c = record {
   received = record {
     goes = λ first talk h. (
       ap g.D.Driver.time c.ensures.same.0 ∙ h.0,
-      told_received _ _ _ _
+      says_received_at _ _ _ _
           (λ asks was. subst (λ d. g.D.Driver.asked d first.driver asks) (sym c.ensures.same.0) was) _ _ talk _ _ _ _
           c.ensures.received (ap g.D.Driver.queue c.ensures.same.0) c.ensures.same.1 h.1,
     );
@@ -45,7 +45,7 @@ turn-tells g i c = record {
   silent = record {
     goes = λ first talk h. (
       c.ensures.same_driver.1 ∙ h.0,
-      told_turn _ _ _ _ _ (λ asks more was then. then.goes first.driver asks was) _ _ _ _ talk _ _ _
+      says_turn_at _ _ _ _ _ (λ asks more was then. then.goes first.driver asks was) _ _ _ _ talk _ _ _
           (subst
           (λ time. TurnsOrStops (g.D.Driver.pace time)
           (Asks (g.D.Driver.asked c.args.self.now.driver) (g.D.Driver.asked c.new.self.now.driver))

@@ -5,7 +5,7 @@ use Rattle.file_client.proofs.Asked.{hangs_up_by}
 use Rattle.chaosd_io.specs.Fault.{run_fault}
 use Rattle.chaosd_ask.proofs.Asking.{broke_off, if_asked, not_parted, parts_or_failed}
 use Rattle.chaosd_ask.proofs.Noting.{broken_noted}
-use Rattle.chaosd_ask.proofs.script.run_script.Goals as goal
+use Rattle.chaosd_ask.proofs.script.ask_script.Goals as goal
 
 pub returns-clause-talk : goal.returns-clause-talk
 returns-clause-talk g c = (

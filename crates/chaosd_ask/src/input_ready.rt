@@ -6,7 +6,7 @@ use std::io::Read;
 
 /// How a reader of the type `R` is asked whether it has something to give, and is shown what was
 /// noted of the replies. std's `Read` can't be asked.
-pub trait Ready<R: Read> {
+pub trait InputReady<R: Read> {
     /// Whether a read would be answered at once, by bytes, the end or a fault. Otherwise the client
     /// of a script takes a turn, which may wait a moment, and asks again.
     fn is_ready(reader: &mut R) -> bool
@@ -21,9 +21,9 @@ pub trait Ready<R: Read> {
 }
 
 /// The way of readers that aren't asked: a read may wait, and no turns are taken while it does.
-pub(crate) struct Unasked;
+pub(crate) struct AlwaysReady;
 
-impl<R: Read> Ready<R> for Unasked {
+impl<R: Read> InputReady<R> for AlwaysReady {
     fn is_ready(_reader: &mut R) -> bool {
         true
     }

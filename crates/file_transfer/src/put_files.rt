@@ -5,29 +5,29 @@ ghost use Rattle.file_copy.specs.declared.text.Charset.{Charset};
 ghost use Rattle.file_transfer.specs.Outcome.{is_well, MatchCopied};
 ghost use Rattle.file_transfer.specs.Copied.{HasPut, PutsWhole, bytes_in, contents_of};
 
-use crate::copier::Copier;
-use crate::local::Locals;
+use crate::file_task::FileTask;
+use crate::local_files::LocalFiles;
 use crate::naming::PutFile;
 use crate::outcome::{Contents, Outcome};
+use crate::progress_sink::ProgressSink;
 use crate::session::Session;
 use crate::text::{has_returns, in_set};
-use crate::viewer::Viewer;
 use file_copy::{Charset, Talk};
 
 /// A user who puts local files, each to a path of the server's.
 #[derive(Drop)]
-pub struct Puts<'a, T: Talk, L: Locals, V: Viewer> {
+pub struct PutFiles<'a, T: Talk, L: LocalFiles, V: ProgressSink> {
     /// The user's talk with the server.
     pub session: Session<'a, T, V>,
     /// The local files.
     pub locals: L,
     /// Whether they are texts.
     pub is_text: bool,
-    /// Whether a digest of each is told.
+    /// Whether a digest of each is reported.
     pub is_digested: bool,
 }
 
-impl<T: Talk, L: Locals, V: Viewer> Puts<'_, T, L, V> {
+impl<T: Talk, L: LocalFiles, V: ProgressSink> PutFiles<'_, T, L, V> {
     /// Puts the bytes that were read of a local file.
     fn put_bytes(
         &mut self,
@@ -47,7 +47,7 @@ impl<T: Talk, L: Locals, V: Viewer> Puts<'_, T, L, V> {
     {
         if self.is_text && has_returns(bytes.as_slice()) {
             let session = &mut self.session;
-            session.viewer.tell_returns(local);
+            session.progress.report_returns(local);
         }
         let contents = Contents::of(bytes.as_slice(), self.is_digested);
         match in_set(Charset::LispMachine, self.is_text, bytes) {
@@ -58,12 +58,12 @@ impl<T: Talk, L: Locals, V: Viewer> Puts<'_, T, L, V> {
     }
 }
 
-impl<'a, T: Talk, L: Locals, V: Viewer> Copier for Puts<'a, T, L, V> {
+impl<'a, T: Talk, L: LocalFiles, V: ProgressSink> FileTask for PutFiles<'a, T, L, V> {
     type File = PutFile<'a>;
 
     type Why = T::NoReply;
 
-    /// A file is told as copied only where the last that was sent and received is all that puts
+    /// A file is reported as copied only where the last that was sent and received is all that puts
     /// what the local file has, as a text where that is asked for, to the path that it goes to.
     ghost tries = { λ old file outcome new. MatchCopied outcome
         (λ contents. (path : List ℕ) × (option_map (λ p. p.items) file.path ≡ Some path)
@@ -73,7 +73,7 @@ impl<'a, T: Talk, L: Locals, V: Viewer> Copier for Puts<'a, T, L, V> {
         × ((new.is_text ≡ old.is_text) × (new.is_digested ≡ old.is_digested)) };
 
     /// The file is read whole before anything is sent.
-    fn copy(&mut self, file: &PutFile<'a>) -> Outcome<T::NoReply> {
+    fn try_file(&mut self, file: &PutFile<'a>) -> Outcome<T::NoReply> {
         let Some(path) = &file.path else {
             return Outcome::Unnamed;
         };

@@ -7,7 +7,7 @@ use std::time::{Clock, Duration};
 
 /// A clock that can be read. Any [`Clock`] is one, of which nothing is claimed, as nobody knows
 /// what the time is.
-pub trait Dial {
+pub trait ReadableClock {
     /// The nanoseconds, since a start of its own, that it may show.
     ghost shows: { Self → ℕ → Type 0 };
 
@@ -38,7 +38,7 @@ pub trait Dial {
         ensures fails { IfErr result (λ _. fails self.now) };
 }
 
-impl<C: Clock> Dial for C {
+impl<C: Clock> ReadableClock for C {
     ghost shows = { λ _ _. Unit {0} };
 
     ghost dates = { λ _ _. Unit {0} };

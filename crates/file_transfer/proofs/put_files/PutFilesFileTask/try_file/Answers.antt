@@ -2,7 +2,7 @@ use Rattle.std.proofs.Common.{◌≡◌, ap, option_map, rules, subst}
 use Rattle.file_copy.specs.declared.text.Charset.TheVariants.{LispMachine}
 use Rattle.file_transfer.specs.Copied.{HasPut, bytes_in, contents_of}
 use Rattle.file_transfer.proofs.Ending.{of_tried}
-use Rattle.file_transfer.proofs.puts.PutsCopier.copy.Goals as goal
+use Rattle.file_transfer.proofs.put_files.PutFilesFileTask.try_file.Goals as goal
 
 pub returns-in-Ok-Some : goal.returns-in-Ok-Some
 returns-in-Ok-Some g c = (

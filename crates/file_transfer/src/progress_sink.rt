@@ -3,7 +3,7 @@ use file_copy::Observer;
 
 /// Whoever is shown how far a file has come. What it is shown in a copy, it gets as the copy's
 /// [`Observer`].
-pub trait Viewer: Observer {
+pub trait ProgressSink: Observer {
     /// The copy of a file of this name begins at this moment.
     fn begin(&mut self, name: &str, moment: u64);
 
@@ -11,5 +11,5 @@ pub trait Viewer: Observer {
     fn end(&mut self);
 
     /// Lines of the text of this name end in CR LF, of which the CRs are kept.
-    fn tell_returns(&mut self, name: &str);
+    fn report_returns(&mut self, name: &str);
 }

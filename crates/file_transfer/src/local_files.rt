@@ -1,14 +1,14 @@
 //! Local files.
 ghost use Rattle.std.specs.Prelude.{◌≡◌, ◌≤◌, List, Option, ℕ, length, IfOk, IfSome, OnOk, OnErr};
 ghost use Rattle.chaos_file.specs.declared.limits.TheConstants.{MAX_FILE};
-ghost use Rattle.file_transfer.specs.Copied.{Kept, kept_after};
+ghost use Rattle.file_transfer.specs.Copied.{WrittenFile, written_after};
 
 use std::io;
 
 /// The files of this side.
-pub trait Locals {
-    /// The files that were written so far, in order. `None` where that can't be told.
-    ghost kept: { Self → Option (List Kept) };
+pub trait LocalFiles {
+    /// The files that were written so far, in order. `None` where that isn't known.
+    ghost written: { Self → Option (List WrittenFile) };
 
     /// What a file of this name has, where that is known.
     ghost held: { Self → List ℕ → Option (List ℕ) };
@@ -19,7 +19,7 @@ pub trait Locals {
     /// Those of the system, and where something else than a file has the name.
     fn check(&mut self, name: &str) -> io::Result<()>
         // To make sure that a file can be written writes none.
-        ensures { kept self.new ≡ kept self.old };
+        ensures { written self.new ≡ written self.old };
 
     /// Writes a file of this name whole, in place of one that has it.
     ///
@@ -28,9 +28,9 @@ pub trait Locals {
     fn keep(&mut self, name: &str, bytes: &[u8]) -> io::Result<()>
         // A file is written whole.
         ensures written { OnOk result
-            (kept self.new ≡ kept_after name.now bytes.now (kept self.old)) }
+            (written self.new ≡ written_after name.now bytes.now (written self.old)) }
         // Otherwise nothing is written.
-        ensures failed { OnErr result (kept self.new ≡ kept self.old) };
+        ensures failed { OnErr result (written self.new ≡ written self.old) };
 
     /// All bytes of a file, or None where they are more than a file of FILE may have.
     ///

@@ -4,15 +4,15 @@ ghost use Rattle.chaos_file.specs.declared.limits.TheConstants.{MAX_PATH};
 ghost use Rattle.file_copy.specs.declared.text.Charset.{Charset};
 ghost use Rattle.file_transfer.specs.Naming.{local_of};
 ghost use Rattle.file_transfer.specs.Outcome.{is_well, MatchCopied};
-ghost use Rattle.file_transfer.specs.Copied.{GetsWhole, HasGot, bytes_in, contents_of, kept_after};
+ghost use Rattle.file_transfer.specs.Copied.{GetsWhole, HasGot, bytes_in, contents_of, written_after};
 
-use crate::copier::Copier;
-use crate::local::Locals;
-use crate::naming::Target;
+use crate::file_task::FileTask;
+use crate::local_files::LocalFiles;
+use crate::naming::Destination;
 use crate::outcome::{Contents, Outcome};
+use crate::progress_sink::ProgressSink;
 use crate::session::Session;
 use crate::text::in_set;
-use crate::viewer::Viewer;
 use chaos_file::MAX_PATH;
 use chaos_node::NodeFault;
 use file_copy::{Charset, Talk};
@@ -20,7 +20,7 @@ use std::alloc::Global;
 
 /// A user who gets files, each into a local one.
 #[derive(Drop)]
-pub struct Gets<'a, T: Talk, L: Locals, V: Viewer> {
+pub struct GetFiles<'a, T: Talk, L: LocalFiles, V: ProgressSink> {
     /// Where memory comes from.
     pub alloc: Global,
     /// The user's talk with the server.
@@ -28,14 +28,14 @@ pub struct Gets<'a, T: Talk, L: Locals, V: Viewer> {
     /// The local files.
     pub locals: L,
     /// Where the files go.
-    pub target: Target<'a>,
+    pub destination: Destination<'a>,
     /// Whether they are texts.
     pub is_text: bool,
-    /// Whether a digest of each is told.
+    /// Whether a digest of each is reported.
     pub is_digested: bool,
 }
 
-impl<T: Talk, L: Locals, V: Viewer> Gets<'_, T, L, V> {
+impl<T: Talk, L: LocalFiles, V: ProgressSink> GetFiles<'_, T, L, V> {
     /// The bytes of a file, as a text where that is asked for.
     fn bytes_of(&mut self, path: &str) -> Result<Vec<u8>, Outcome<T::NoReply>>
         requires { length path.now ≤ MAX_PATH }
@@ -45,7 +45,7 @@ impl<T: Talk, L: Locals, V: Viewer> Gets<'_, T, L, V> {
         ensures missed { IfErr result (λ outcome. is_well outcome ≡ false) }
         ensures same { (self.new.locals ≡ self.old.locals)
             × (self.new.is_digested ≡ self.old.is_digested) }
-        ensures same_target { (self.new.target ≡ self.old.target)
+        ensures same_destination { (self.new.destination ≡ self.old.destination)
             × (self.new.is_text ≡ self.old.is_text) }
     {
         let mut bytes = Vec::new(self.alloc);
@@ -58,13 +58,13 @@ impl<T: Talk, L: Locals, V: Viewer> Gets<'_, T, L, V> {
 
     /// Writes a local file.
     fn keep(&mut self, local: &str, bytes: &[u8]) -> Result<Contents, Outcome<T::NoReply>>
-        ensures kept { IfOk result
+        ensures written { IfOk result
             (λ contents. (contents ≡ contents_of self.old.is_digested bytes.now)
-            × (L.kept self.new.locals ≡ kept_after local.now bytes.now (L.kept self.old.locals))) }
-        ensures failed { OnErr result (L.kept self.new.locals ≡ L.kept self.old.locals) }
+            × (L.written self.new.locals ≡ written_after local.now bytes.now (L.written self.old.locals))) }
+        ensures failed { OnErr result (L.written self.new.locals ≡ L.written self.old.locals) }
         ensures missed { IfErr result (λ outcome. is_well outcome ≡ false) }
         ensures still { self.new.session ≡ self.old.session }
-        ensures same_target { (self.new.target ≡ self.old.target)
+        ensures same_destination { (self.new.destination ≡ self.old.destination)
             × (self.new.is_text ≡ self.old.is_text)
             × (self.new.is_digested ≡ self.old.is_digested) }
     {
@@ -79,11 +79,11 @@ impl<T: Talk, L: Locals, V: Viewer> Gets<'_, T, L, V> {
     fn get_into(&mut self, path: &str, local: &str) -> Result<Contents, Outcome<T::NoReply>>
         ensures got { IfOk result
             (λ contents. GetsWhole path.now local.now self.old.is_text self.old.is_digested contents
-            (T.talked self.new.session.talk) (L.kept self.old.locals)
-            (L.kept self.new.locals)) }
-        ensures failed { OnErr result (L.kept self.new.locals ≡ L.kept self.old.locals) }
+            (T.talked self.new.session.talk) (L.written self.old.locals)
+            (L.written self.new.locals)) }
+        ensures failed { OnErr result (L.written self.new.locals ≡ L.written self.old.locals) }
         ensures missed { IfErr result (λ outcome. is_well outcome ≡ false) }
-        ensures same_target { (self.new.target ≡ self.old.target)
+        ensures same_destination { (self.new.destination ≡ self.old.destination)
             × (self.new.is_text ≡ self.old.is_text)
             × (self.new.is_digested ≡ self.old.is_digested) }
     {
@@ -100,24 +100,24 @@ impl<T: Talk, L: Locals, V: Viewer> Gets<'_, T, L, V> {
     }
 }
 
-impl<'a, T: Talk, L: Locals, V: Viewer> Copier for Gets<'a, T, L, V> {
+impl<'a, T: Talk, L: LocalFiles, V: ProgressSink> FileTask for GetFiles<'a, T, L, V> {
     type File = &'a str;
 
     type Why = T::NoReply;
 
-    /// A file is told as copied only where the last that was sent and received is all that gets
+    /// A file is reported as copied only where the last that was sent and received is all that gets
     /// this path's bytes, and exactly these, as a text where that is asked for, were then written
-    /// to the local file that the path goes to. The count and the digest that are told are theirs.
-    /// Where it isn't told as copied, no local file changed.
+    /// to the local file that the path goes to. The count and the digest that are reported are
+    /// theirs. Where it isn't reported as copied, no local file changed.
     ghost tries = { λ old path outcome new. MatchCopied outcome
-        (λ contents. GetsWhole path.now (local_of old.target path.now) old.is_text old.is_digested contents
-        (T.talked new.session.talk) (L.kept old.locals) (L.kept new.locals))
-        (L.kept new.locals ≡ L.kept old.locals)
-        × ((new.target ≡ old.target) × (new.is_text ≡ old.is_text)
+        (λ contents. GetsWhole path.now (local_of old.destination path.now) old.is_text old.is_digested contents
+        (T.talked new.session.talk) (L.written old.locals) (L.written new.locals))
+        (L.written new.locals ≡ L.written old.locals)
+        × ((new.destination ≡ old.destination) × (new.is_text ≡ old.is_text)
         × (new.is_digested ≡ old.is_digested)) };
 
-    fn copy(&mut self, path: &&'a str) -> Outcome<T::NoReply> {
-        let Ok(local) = self.target.local(self.alloc, path) else {
+    fn try_file(&mut self, path: &&'a str) -> Outcome<T::NoReply> {
+        let Ok(local) = self.destination.local(self.alloc, path) else {
             return Outcome::Failed(NodeFault::NoMemory);
         };
         Outcome::of(self.get_into(path, local.as_str()))

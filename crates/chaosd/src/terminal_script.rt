@@ -2,8 +2,7 @@
 ghost use Rattle.std.specs.Prelude.{◌≡◌, ◌≤◌, ◌+◌, length, IfOk};
 ghost use Rattle.std.specs.Counts.{IsPrefixLen};
 
-use crate::terminals::Terminals;
-use chaosd_ask::{Ready, ReplyNotes, read_command};
+use chaosd_ask::{InputReady, ReplyNotes, read_command};
 use chaosd_io::Data;
 use std::fs::File;
 use std::io;
@@ -13,12 +12,13 @@ use std::io::{ErrorKind, Read};
 /// 4,096 bytes.
 const CHUNK: usize = 4_096;
 
-/// Where somebody types.
+/// The terminal at which a script is typed, where it is.
 #[derive(Drop)]
-pub(crate) struct Typing {
-    pub(crate) terminals: Terminals,
+pub(crate) struct Terminal {
+    /// Whether somebody types, and more is reported.
+    pub(crate) is_typed: bool,
     /// The terminal, where it can be read without waiting.
-    pub(crate) terminal: Option<File>,
+    pub(crate) file: Option<File>,
 }
 
 /// A script that is read from standard input. On a terminal it asks for each line by a prompt, and
@@ -26,16 +26,14 @@ pub(crate) struct Typing {
 /// error, it gives a line at a time, and none behind an error. It can be asked whether a line was
 /// typed.
 #[derive(Drop)]
-pub(crate) struct Typed<'a, R: Eprint, I: Read> {
+pub(crate) struct TerminalScript<'a, R: Eprint, I: Read> {
     rt: &'a R,
     inner: &'a mut I,
-    typing: Typing,
+    terminal: Terminal,
     is_strict: bool,
     /// Whether a reply was an error, and whether the last reply was an error for a handle LOGIN.
     has_error: bool,
     is_login: bool,
-    /// Whether somebody types, and more is reported.
-    is_typed: bool,
     chunk: [u8; CHUNK],
     /// What of the chunk came, and was given.
     came: usize,
@@ -66,17 +64,15 @@ fn bare(line: &[u8]) -> &[u8] {
     line.strip_suffix(b"\n".as_slice()).unwrap_or(line)
 }
 
-impl<'a, R: Eprint, I: Read> Typed<'a, R, I> {
-    pub(crate) fn new(rt: &'a R, inner: &'a mut I, typing: Typing, is_strict: bool) -> Self {
-        let is_typed = typing.terminals.input && typing.terminals.errors;
-        Typed {
+impl<'a, R: Eprint, I: Read> TerminalScript<'a, R, I> {
+    pub(crate) fn new(rt: &'a R, inner: &'a mut I, terminal: Terminal, is_strict: bool) -> Self {
+        TerminalScript {
             rt,
             inner,
-            typing,
+            terminal,
             is_strict,
             has_error: false,
             is_login: false,
-            is_typed,
             chunk: [0; CHUNK],
             came: 0,
             given: 0,
@@ -87,7 +83,7 @@ impl<'a, R: Eprint, I: Read> Typed<'a, R, I> {
 
     /// Asks for a line, and explains what may have gone wrong with the last.
     fn prompt(&self) {
-        if !self.is_typed {
+        if !self.terminal.is_typed {
             return;
         }
         if self.is_login {
@@ -102,7 +98,7 @@ impl<'a, R: Eprint, I: Read> Typed<'a, R, I> {
     fn is_left_out(&self, length: usize) -> bool
         requires { self.now.given + length ≤ self.now.came }
     {
-        if !self.is_typed || length == 0 {
+        if !self.terminal.is_typed || length == 0 {
             return false;
         }
         let line = &self.chunk[self.given..self.given + length];
@@ -120,8 +116,8 @@ impl<'a, R: Eprint, I: Read> Typed<'a, R, I> {
         // At most 4,096 bytes come.
         ensures bound { IfOk result (λ n. n ≤ 4096) }
     {
-        match &mut self.typing.terminal {
-            Some(terminal) if !may_wait => terminal.read(&mut self.chunk),
+        match &mut self.terminal.file {
+            Some(file) if !may_wait => file.read(&mut self.chunk),
             _ => self.inner.read(&mut self.chunk),
         }
     }
@@ -138,7 +134,7 @@ impl<'a, R: Eprint, I: Read> Typed<'a, R, I> {
         self.is_prompted = false;
         if self.came == 0 {
             self.is_over = true;
-            if self.is_typed {
+            if self.terminal.is_typed {
                 let _ = eprint!(self.rt; "\n");
             }
         }
@@ -190,9 +186,9 @@ impl<'a, R: Eprint, I: Read> Typed<'a, R, I> {
     }
 }
 
-impl<R: Eprint, I: Read> Read for Typed<'_, R, I> {
+impl<R: Eprint, I: Read> Read for TerminalScript<'_, R, I> {
     fn read(&mut self, buf: &mut [u8]) -> io::Result<usize> {
-        if self.is_strict || self.is_typed || self.typing.terminal.is_some() {
+        if self.is_strict || self.terminal.is_typed || self.terminal.file.is_some() {
             self.give(buf)
         } else {
             self.inner.read(buf)
@@ -202,14 +198,14 @@ impl<R: Eprint, I: Read> Read for Typed<'_, R, I> {
 
 /// The way of a script that is typed: at a terminal that can be read without waiting it is asked
 /// whether a line was typed. The reader keeps what was noted of the replies for its next line.
-pub(crate) struct ByLook;
+pub(crate) struct PollTerminal;
 
-impl<R: Eprint, I: Read> Ready<Typed<'_, R, I>> for ByLook {
-    fn is_ready(reader: &mut Typed<'_, R, I>) -> bool {
-        reader.typing.terminal.is_none() || reader.is_there()
+impl<R: Eprint, I: Read> InputReady<TerminalScript<'_, R, I>> for PollTerminal {
+    fn is_ready(reader: &mut TerminalScript<'_, R, I>) -> bool {
+        reader.terminal.file.is_none() || reader.is_there()
     }
 
-    fn show(reader: &mut Typed<'_, R, I>, notes: &ReplyNotes) {
+    fn show(reader: &mut TerminalScript<'_, R, I>, notes: &ReplyNotes) {
         reader.has_error = notes.has_error();
         reader.is_login = notes.is_login();
     }

@@ -3,31 +3,31 @@ ghost use Rattle.std.specs.Prelude.{◌≡◌, ◌≤◌};
 ghost use Rattle.file_transfer.specs.Outcome.{IfChanged};
 ghost use Rattle.file_transfer.specs.Copied.{HasDeleted};
 
-use crate::copier::Copier;
+use crate::file_task::FileTask;
 use crate::outcome::Outcome;
+use crate::progress_sink::ProgressSink;
 use crate::session::Session;
-use crate::viewer::Viewer;
 use chaos_file::MAX_PATH;
 use file_copy::Talk;
 
 /// A user who has the server delete files.
 #[derive(Drop)]
-pub struct Deletes<'a, T: Talk, V: Viewer> {
+pub struct DeleteFiles<'a, T: Talk, V: ProgressSink> {
     /// The user's talk with the server.
     pub session: Session<'a, T, V>,
 }
 
-impl<'a, T: Talk, V: Viewer> Copier for Deletes<'a, T, V> {
+impl<'a, T: Talk, V: ProgressSink> FileTask for DeleteFiles<'a, T, V> {
     type File = &'a str;
 
     type Why = T::NoReply;
 
-    /// A file is told as changed only where the last that was sent and received is its DELETE, and
-    /// that it was done.
+    /// A file is reported as changed only where the last that was sent and received is its DELETE,
+    /// and that it was done.
     ghost tries = { λ _ path outcome new. IfChanged outcome
         (HasDeleted path.now (T.talked new.session.talk)) };
 
-    fn copy(&mut self, path: &&'a str) -> Outcome<T::NoReply> {
+    fn try_file(&mut self, path: &&'a str) -> Outcome<T::NoReply> {
         if path.len() > MAX_PATH {
             return Outcome::TooLong;
         }
