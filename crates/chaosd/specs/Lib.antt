@@ -1,4 +1,5 @@
 pub mod Config
+pub mod Exit
 pub mod Framed
 pub mod Hearing
 pub mod Patience

@@ -6,6 +6,7 @@ ghost use Rattle.chaosd.specs.Routes.{IsAskedBy, asked_host};
 
 use crate::client::{contact_of, patience_of};
 use crate::config::config_of;
+use crate::exit_status::ExitStatus;
 use crate::framed::hops_of;
 use crate::network::{end_script, has_input, heard_alone};
 use crate::peer_socket::PeerSocket;
@@ -21,7 +22,6 @@ use chaosd_ask::{HandleName, NOBODY, Notes, ScriptEnd, ask_script};
 use chaosd_io::RunFault;
 use chaosd_line::{Ask, Framing};
 use file_client::{Client, ClientHost, ClockDriver, Patience, Route, Shown, Timing};
-use file_transfer::ExitStatus;
 use std::fs::{File, Files};
 use std::io;
 use std::io::{Read, Write};

@@ -1,5 +1,6 @@
 //! The runs of `delete` and `rename`: what another host does with its files.
 use crate::dialogs::{Caller, Work};
+use crate::exit_status::ExitStatus;
 use crate::file_words::{CHANGE_UNKNOWN, FileWords};
 use crate::progress::ProgressLine;
 use chaos_file::MAX_PATH;
@@ -9,7 +10,7 @@ use chaosd_line::{Calling, Delete, Rename};
 use file_client::{Client, ClientHost, ClockDriver, Timing};
 use file_copy::Talk;
 use file_transfer::{
-    DeleteFiles, Destination, ExitStatus, Outcome, OutcomeSink, ProgressSink, Session, run_copies,
+    DeleteFiles, Destination, Outcome, OutcomeSink, ProgressSink, Session, run_copies,
 };
 
 /// Reports changes: nothing of a change that was made.
@@ -59,9 +60,9 @@ impl<R: AllocGlobal + ReadableClock + Eprint> Work<R> for Delete<'_> {
         let mut deletes = DeleteFiles {
             session: Session::new(client, progress, self.calling.login),
         };
-        let status = run_copies(&mut deletes, &mut words, self.paths.as_slice());
+        let worst = run_copies(&mut deletes, &mut words, self.paths.as_slice());
         deletes.session.end();
-        status
+        ExitStatus::of_files(worst)
     }
 }
 
@@ -102,6 +103,6 @@ impl<R: AllocGlobal + ReadableClock + Eprint> Work<R> for Rename<'_> {
         let outcome = renamed(&mut session, self);
         words.report(self.from, &outcome);
         session.end();
-        outcome.status()
+        ExitStatus::of_files(outcome.severity())
     }
 }

@@ -1,5 +1,6 @@
 //! The runs of `get` and `put`: whole files between local ones and another host's.
 use crate::dialogs::{Caller, Work};
+use crate::exit_status::ExitStatus;
 use crate::file_words::{FileWords, PUT_UNKNOWN};
 use crate::network::has_input;
 use crate::progress::ProgressLine;
@@ -8,9 +9,7 @@ use chaos_node::ReadableClock;
 use chaosd_io::RunFault;
 use chaosd_line::{Calling, Copying, Get, Put};
 use file_client::{Client, ClientHost, ClockDriver, Timing};
-use file_transfer::{
-    Destination, Disk, ExitStatus, GetFiles, PutFiles, STREAM, Session, run_copies,
-};
+use file_transfer::{Destination, Disk, GetFiles, PutFiles, STREAM, Session, run_copies};
 use std::fs::File;
 use std::rt::Files;
 
@@ -83,9 +82,9 @@ where
             is_text: copying.is_text,
             is_digested: copying.is_verbose,
         };
-        let status = run_copies(&mut gets, &mut words, self.paths.as_slice());
+        let worst = run_copies(&mut gets, &mut words, self.paths.as_slice());
         gets.session.end();
-        status
+        ExitStatus::of_files(worst)
     }
 }
 
@@ -137,8 +136,8 @@ where
             is_text: copying.is_text,
             is_digested: copying.is_verbose,
         };
-        let status = run_copies(&mut puts, &mut words, self.files.as_slice());
+        let worst = run_copies(&mut puts, &mut words, self.files.as_slice());
         puts.session.end();
-        status
+        ExitStatus::of_files(worst)
     }
 }

@@ -1,5 +1,6 @@
 //! What `get`, `put`, `delete` and `rename` have in common: a call of a server over a socket.
 use crate::client::{route_of, timing_of};
+use crate::exit_status::ExitStatus;
 use crate::framed::hops_of;
 use crate::network::link_to_server;
 use crate::run_ends::{report_unbegun, report_unopened};
@@ -10,7 +11,6 @@ use chaos_node::ReadableClock;
 use chaosd_io::RunFault;
 use chaosd_line::{Calling, Framing};
 use file_client::{ClientHost, Timing};
-use file_transfer::ExitStatus;
 use std::fs::{File, Files};
 use std::net::Net;
 

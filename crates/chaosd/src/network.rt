@@ -2,13 +2,13 @@
 ghost use Rattle.std.specs.Prelude.{◌≡◌};
 ghost use Rattle.chaosd.specs.Hearing.{alone_heard};
 
+use crate::exit_status::ExitStatus;
 use crate::peer_socket::PeerSocket;
 use crate::run_ends::{report_script, report_unopened};
 use chaos_link::{Carriage, Peer, Peers, UdpLink};
 use chaosd_ask::{LOOP_CLIENT, LOOP_SERVER, Notes, ScriptEnd, run_loop};
 use chaosd_io::RunFault;
 use chaosd_line::Calling;
-use file_transfer::ExitStatus;
 use std::io;
 use std::io::Read;
 use std::net::{Ipv4Addr, Net, SocketAddr, SocketAddrV4, UdpSocket};

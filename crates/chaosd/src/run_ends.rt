@@ -1,10 +1,10 @@
 //! Reports on standard error how a run ended, or why it could not begin.
 ghost use Rattle.std.specs.Prelude.{◌≡◌, ◌⊎◌};
-ghost use Rattle.file_transfer.specs.Status.{status_of_fault};
+ghost use Rattle.chaosd.specs.Exit.{status_of_fault};
 
+use crate::exit_status::ExitStatus;
 use chaosd_ask::{Notes, ScriptEnd};
 use chaosd_io::RunFault;
-use file_transfer::ExitStatus;
 use std::fmt::Display;
 use std::io;
 

@@ -2,12 +2,12 @@
 ghost use Rattle.std.specs.Prelude.{◌≡◌};
 ghost use Rattle.chaosd.specs.Framed.{format_by, view_by};
 
+use crate::exit_status::ExitStatus;
 use crate::run_ends::report_end;
 use chaosd_io::RunFault;
 use chaosd_lab::{BadLine, Stage, run_script};
 use chaosd_line::Show;
 use chaosd_show::{Format, View, run_show_by};
-use file_transfer::ExitStatus;
 use std::io;
 
 /// The form of the datagrams that are reported.

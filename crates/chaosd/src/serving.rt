@@ -4,6 +4,7 @@ ghost use Rattle.chaosd.specs.Config.{config_by};
 ghost use Rattle.chaosd_line.specs.Framings.{carriage_of};
 
 use crate::config::config_of;
+use crate::exit_status::ExitStatus;
 use crate::framed::hops_of;
 use crate::run_ends::report_unopened;
 use chaos_chudp::ChudpLink;
@@ -14,7 +15,6 @@ use chaosd_io::RunFault;
 use chaosd_line::{Framing, LogLevel, Serve};
 use chaosd_log::{Journal, Level, PeerSources, Topic};
 use file_server::{ServeOptions, run_serve_by};
-use file_transfer::ExitStatus;
 use std::fs::{File, Files};
 use std::io;
 use std::net::{Net, SocketAddr, UdpSocket};

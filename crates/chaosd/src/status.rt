@@ -1,10 +1,10 @@
 //! The exit status of a line that asks for nothing, and of a run.
 ghost use Rattle.std.specs.Prelude.{◌≡◌};
-ghost use Rattle.file_transfer.specs.Status.{number_of};
+ghost use Rattle.chaosd.specs.Exit.{number_of};
 ghost use Rattle.chaosd.specs.Status.{refused_status_of};
 
+use crate::exit_status::ExitStatus;
 use chaosd_line::LineFault;
-use file_transfer::ExitStatus;
 
 /// The status after a refused line, by whether the user could be shown its text.
 pub(crate) fn refused_status(fault: LineFault, is_shown: bool) -> ExitStatus

@@ -1,9 +1,9 @@
 //! The words of the command line, as the system hands them over.
 ghost use Rattle.std.specs.Prelude.{◌≡◌};
-ghost use Rattle.file_transfer.specs.Status.{number_of};
+ghost use Rattle.chaosd.specs.Exit.{number_of};
 ghost use Rattle.chaosd.specs.Status.{words_status};
 
-use file_transfer::ExitStatus;
+use crate::exit_status::ExitStatus;
 use std::alloc::{AllocError, Global};
 use std::env::FillError;
 use std::rt::Env;

@@ -6,57 +6,48 @@ use Rattle.std.specs.declared.io.ErrorKind.{ErrorKind}
 use Rattle.std.specs.declared.io.ErrorKind.TheVariants as k
 use Rattle.chaos_node.specs.declared.fault.NodeFault.{NodeFault}
 use Rattle.chaos_node.specs.declared.fault.NodeFault.TheVariants as f
-use Rattle.file_transfer.specs.declared.status.ExitStatus.{ExitStatus}
-use Rattle.file_transfer.specs.declared.status.ExitStatus.TheVariants as s
+use Rattle.file_transfer.specs.declared.severity.Severity.{Severity}
+use Rattle.file_transfer.specs.declared.severity.Severity.TheVariants as s
 use Rattle.file_transfer.specs.declared.outcome.Outcome.{Outcome}
 use Rattle.file_transfer.specs.declared.outcome.Outcome.TheVariants as o
-use Rattle.file_transfer.specs.Status.{worse, is_done}
-use Rattle.file_transfer.specs.Outcome.{status_of, status_of_kind, status_of_node, is_well, goes_on}
+use Rattle.file_transfer.specs.Severity.{worse, is_done}
+use Rattle.file_transfer.specs.Outcome.{severity_of, severity_of_kind, severity_of_node, is_well, goes_on}
 use Rattle.file_transfer.specs.Runs.{Reported, Tried, Tries, none, tried, left, Runs, worst_from, all_well, reported_after, reported_of}
 
-worst_more : {F W : Type 0} (status : ExitStatus) (files : List (Tried F W)) (file : Tried F W)
-    → worst_from status (files ++ file ∷ []) ≡ worse (worst_from status files) (status_of file.outcome)
-worst_more status [] file = refl
-worst_more status (first ∷ files) file = worst_more (worse status (status_of first.outcome)) files file
+worst_more : {F W : Type 0} (severity : Severity) (files : List (Tried F W)) (file : Tried F W)
+    → worst_from severity (files ++ file ∷ []) ≡ worse (worst_from severity files) (severity_of file.outcome)
+worst_more severity [] file = refl
+worst_more severity (first ∷ files) file = worst_more (worse severity (severity_of first.outcome)) files file
 
-done_worse : (a b : ExitStatus) → is_done (worse a b) ≡ (is_done a && is_done b)
+done_worse : (a b : Severity) → is_done (worse a b) ≡ (is_done a && is_done b)
 done_worse s.Done s.Done = refl
 done_worse s.Done s.Refused = refl
-done_worse s.Done s.BadLine = refl
-done_worse s.Done s.Fault = refl
+done_worse s.Done s.Failed = refl
 done_worse s.Done s.NoMemory = refl
 done_worse s.Refused s.Done = refl
 done_worse s.Refused s.Refused = refl
-done_worse s.Refused s.BadLine = refl
-done_worse s.Refused s.Fault = refl
+done_worse s.Refused s.Failed = refl
 done_worse s.Refused s.NoMemory = refl
-done_worse s.BadLine s.Done = refl
-done_worse s.BadLine s.Refused = refl
-done_worse s.BadLine s.BadLine = refl
-done_worse s.BadLine s.Fault = refl
-done_worse s.BadLine s.NoMemory = refl
-done_worse s.Fault s.Done = refl
-done_worse s.Fault s.Refused = refl
-done_worse s.Fault s.BadLine = refl
-done_worse s.Fault s.Fault = refl
-done_worse s.Fault s.NoMemory = refl
+done_worse s.Failed s.Done = refl
+done_worse s.Failed s.Refused = refl
+done_worse s.Failed s.Failed = refl
+done_worse s.Failed s.NoMemory = refl
 done_worse s.NoMemory s.Done = refl
 done_worse s.NoMemory s.Refused = refl
-done_worse s.NoMemory s.BadLine = refl
-done_worse s.NoMemory s.Fault = refl
+done_worse s.NoMemory s.Failed = refl
 done_worse s.NoMemory s.NoMemory = refl
 
-kind_not_done : (kind : ErrorKind) → is_done (status_of_kind kind) ≡ false
+kind_not_done : (kind : ErrorKind) → is_done (severity_of_kind kind) ≡ false
 kind_not_done k.OutOfMemory = refl
 kind_not_done _ = refl
 
-fault_not_done : (fault : NodeFault) → is_done (status_of_node fault) ≡ false
+fault_not_done : (fault : NodeFault) → is_done (severity_of_node fault) ≡ false
 fault_not_done f.Link = refl
 fault_not_done f.Clock = refl
 fault_not_done f.NoMemory = refl
 
 -- all is well of a file exactly where what was asked for was done
-done_well : {W : Type 0} (outcome : Outcome W) → is_done (status_of outcome) ≡ is_well outcome
+done_well : {W : Type 0} (outcome : Outcome W) → is_done (severity_of outcome) ≡ is_well outcome
 done_well (o.Copied contents) = refl
 done_well o.Changed = refl
 done_well (o.Garbled lost) = refl
@@ -120,13 +111,13 @@ module _ {C F W : Type 0} (one : C → F → Outcome W → C → Type 0) (name :
     all = refl;
   }
 
-  more : (files : List F) (status : ExitStatus) (goes goes_then : Bool) (c d : C)
+  more : (files : List F) (severity : Severity) (goes goes_then : Bool) (c d : C)
       (reported_now : Option (List (Reported W))) (file : F) (outcome : Outcome W)
-      → (run : Runs one name start reported files status goes c reported_now)
+      → (run : Runs one name start reported files severity goes c reported_now)
       → Tries one start (run.tries ++ record { file = file; outcome = outcome } ∷ []) goes_then d
-      → Runs one name start reported (files ++ file ∷ []) (worse status (status_of outcome)) goes_then d
+      → Runs one name start reported (files ++ file ∷ []) (worse severity (severity_of outcome)) goes_then d
       (reported_after (record { name = name file; outcome = outcome } ∷ []) reported_now)
-  more files status goes goes_then c d reported_now file outcome run then =
+  more files severity goes goes_then c d reported_now file outcome run then =
       let this : Tried F W = record { file = file; outcome = outcome } in
       let word : Reported W = record { name = name file; outcome = outcome } in
       record {
@@ -136,26 +127,26 @@ module _ {C F W : Type 0} (one : C → F → Outcome W → C → Type 0) (name :
         reporting =
             ap (λ t. reported_after (word ∷ []) t) run.reporting ∙ reported_more (reported_of name run.tries) word reported
             ∙ ap (λ fs. reported_after fs reported) (sym (reported_of_more name run.tries this));
-        worst = ap (λ st. worse st (status_of outcome)) run.worst ∙ sym (worst_more s.Done run.tries this);
+        worst = ap (λ st. worse st (severity_of outcome)) run.worst ∙ sym (worst_more s.Done run.tries this);
         all =
-            done_worse status (status_of outcome) ∙ ap (λ b. is_done status && b) (done_well outcome)
+            done_worse severity (severity_of outcome) ∙ ap (λ b. is_done severity && b) (done_well outcome)
             ∙ ap (λ b. b && is_well outcome) run.all ∙ sym (all_more run.tries this);
       }
 
   -- one file more, which was tried
-  pub one_tried : (files : List F) (status : ExitStatus) (c d : C) (reported_now : Option (List (Reported W))) (file : F)
+  pub one_tried : (files : List F) (severity : Severity) (c d : C) (reported_now : Option (List (Reported W))) (file : F)
       (outcome : Outcome W)
-      → one c file outcome d → Runs one name start reported files status true c reported_now
-      → Runs one name start reported (files ++ file ∷ []) (worse status (status_of outcome)) (goes_on outcome) d
+      → one c file outcome d → Runs one name start reported files severity true c reported_now
+      → Runs one name start reported (files ++ file ∷ []) (worse severity (severity_of outcome)) (goes_on outcome) d
       (reported_after (record { name = name file; outcome = outcome } ∷ []) reported_now)
-  one_tried files status c d reported_now file outcome fact run =
-      more files status true (goes_on outcome) c d reported_now file outcome run
+  one_tried files severity c d reported_now file outcome fact run =
+      more files severity true (goes_on outcome) c d reported_now file outcome run
       (tried run.tries c d file outcome run.tried fact)
 
   -- one file more, which was left
-  pub one_left : (files : List F) (status : ExitStatus) (c : C) (reported_now : Option (List (Reported W))) (file : F)
-      → Runs one name start reported files status false c reported_now
-      → Runs one name start reported (files ++ file ∷ []) (worse status s.Refused) false c
+  pub one_left : (files : List F) (severity : Severity) (c : C) (reported_now : Option (List (Reported W))) (file : F)
+      → Runs one name start reported files severity false c reported_now
+      → Runs one name start reported (files ++ file ∷ []) (worse severity s.Refused) false c
       (reported_after (record { name = name file; outcome = o.NotTried } ∷ []) reported_now)
-  one_left files status c reported_now file run =
-      more files status false false c c reported_now file o.NotTried run (left run.tries c file run.tried)
+  one_left files severity c reported_now file run =
+      more files severity false false c c reported_now file o.NotTried run (left run.tries c file run.tried)

@@ -1,4 +1,4 @@
-pub mod Status
+pub mod Severity
 pub mod Outcome
 pub mod Progress
 pub mod Naming

@@ -5,39 +5,39 @@ use Rattle.std.specs.declared.io.ErrorKind.{ErrorKind}
 use Rattle.std.specs.declared.io.ErrorKind.TheVariants as k
 use Rattle.chaos_node.specs.declared.fault.NodeFault.{NodeFault}
 use Rattle.chaos_node.specs.declared.fault.NodeFault.TheVariants as n
-use Rattle.file_transfer.specs.declared.status.ExitStatus.{ExitStatus}
-use Rattle.file_transfer.specs.declared.status.ExitStatus.TheVariants as s
+use Rattle.file_transfer.specs.declared.severity.Severity.{Severity}
+use Rattle.file_transfer.specs.declared.severity.Severity.TheVariants as s
 use Rattle.file_transfer.specs.declared.outcome.Contents.{Contents}
 use Rattle.file_transfer.specs.declared.outcome.Outcome.{Outcome}
 use Rattle.file_transfer.specs.declared.outcome.Outcome.TheVariants.{Copied, Changed, Garbled, TooBig, TooLong, Unnamed, Unread, Unwritten, Failed, Refused, Strange, Unanswered, Unknown, NotTried}
 
 -- out of memory, or another fault of this side
-abbrev pub status_of_kind : ErrorKind → ExitStatus
-status_of_kind k.OutOfMemory = s.NoMemory
-status_of_kind _ = s.Fault
+abbrev pub severity_of_kind : ErrorKind → Severity
+severity_of_kind k.OutOfMemory = s.NoMemory
+severity_of_kind _ = s.Failed
 
 -- out of memory, or a fault of a link or of the clock
-abbrev pub status_of_node : NodeFault → ExitStatus
-status_of_node n.NoMemory = s.NoMemory
-status_of_node n.Link = s.Fault
-status_of_node n.Clock = s.Fault
+abbrev pub severity_of_node : NodeFault → Severity
+severity_of_node n.NoMemory = s.NoMemory
+severity_of_node n.Link = s.Failed
+severity_of_node n.Clock = s.Failed
 
 -- all is well only where the file was copied, or was changed as was asked
-abbrev pub status_of : {W : Type 0} → Outcome W → ExitStatus
-status_of (Copied contents) = s.Done
-status_of Changed = s.Done
-status_of (Garbled lost) = s.Refused
-status_of TooBig = s.Refused
-status_of TooLong = s.Refused
-status_of Unnamed = s.Refused
-status_of (Unread fault) = status_of_kind (error_kind fault)
-status_of (Unwritten fault) = status_of_kind (error_kind fault)
-status_of (Failed fault) = status_of_node fault
-status_of (Refused reply) = s.Refused
-status_of (Strange reply) = s.Refused
-status_of (Unanswered why) = s.Refused
-status_of (Unknown why) = s.Refused
-status_of NotTried = s.Refused
+abbrev pub severity_of : {W : Type 0} → Outcome W → Severity
+severity_of (Copied contents) = s.Done
+severity_of Changed = s.Done
+severity_of (Garbled lost) = s.Refused
+severity_of TooBig = s.Refused
+severity_of TooLong = s.Refused
+severity_of Unnamed = s.Refused
+severity_of (Unread fault) = severity_of_kind (error_kind fault)
+severity_of (Unwritten fault) = severity_of_kind (error_kind fault)
+severity_of (Failed fault) = severity_of_node fault
+severity_of (Refused reply) = s.Refused
+severity_of (Strange reply) = s.Refused
+severity_of (Unanswered why) = s.Refused
+severity_of (Unknown why) = s.Refused
+severity_of NotTried = s.Refused
 
 -- whether what was asked for was done
 abbrev pub is_well : {W : Type 0} → Outcome W → Bool

@@ -1,12 +1,12 @@
 -- A run over files, one after another.
 use Rattle.std.specs.Prelude.{◌≡◌, ℕ, Bool, true, false, List, [], ◌∷◌, ◌++◌, map, Option, option_map}
 use Rattle.std.specs.List.{list_all}
-use Rattle.file_transfer.specs.declared.status.ExitStatus.{ExitStatus}
-use Rattle.file_transfer.specs.declared.status.ExitStatus.TheVariants as s
+use Rattle.file_transfer.specs.declared.severity.Severity.{Severity}
+use Rattle.file_transfer.specs.declared.severity.Severity.TheVariants as s
 use Rattle.file_transfer.specs.declared.outcome.Outcome.{Outcome}
 use Rattle.file_transfer.specs.declared.outcome.Outcome.TheVariants.{NotTried}
-use Rattle.file_transfer.specs.Status.{worse, is_done}
-use Rattle.file_transfer.specs.Outcome.{status_of, is_well, goes_on}
+use Rattle.file_transfer.specs.Severity.{worse, is_done}
+use Rattle.file_transfer.specs.Outcome.{severity_of, is_well, goes_on}
 
 -- a file that was tried or not, and what came of it
 pub record Tried (F W : Type 0) : Type 0 where
@@ -21,10 +21,10 @@ pub record Reported (W : Type 0) : Type 0 where
 abbrev pub reported_of : {F W : Type 0} → (F → List ℕ) → List (Tried F W) → List (Reported W)
 reported_of name files = map (λ f. record { name = name f.file; outcome = f.outcome }) files
 
--- the worst of a status and of what came of files
-abbrev pub worst_from : {F W : Type 0} → ExitStatus → List (Tried F W) → ExitStatus
-worst_from status [] = status
-worst_from status (file ∷ files) = worst_from (worse status (status_of file.outcome)) files
+-- the worst of a severity and of what came of files
+abbrev pub worst_from : {F W : Type 0} → Severity → List (Tried F W) → Severity
+worst_from severity [] = severity
+worst_from severity (file ∷ files) = worst_from (worse severity (severity_of file.outcome)) files
 
 abbrev pub all_well : {F W : Type 0} → List (Tried F W) → Bool
 all_well files = list_all (λ file. is_well file.outcome) files
@@ -44,15 +44,15 @@ pub data Tries {C F W : Type 0} (one : C → F → Outcome W → C → Type 0) (
   left : (files : List (Tried F W)) (c : C) (file : F) → Tries one start files false c
       → Tries one start (files ++ record { file = file; outcome = NotTried } ∷ []) false c
 
--- A run over these files: what came of each was reported under its name, in their order, its status is the worst, and all is
+-- A run over these files: what came of each was reported under its name, in their order, its severity is the worst, and all is
 -- well exactly where what was asked for was done with each.
 pub record Runs {C F W : Type 0} (one : C → F → Outcome W → C → Type 0) (name : F → List ℕ) (start : C)
-    (reported : Option (List (Reported W))) (files : List F) (status : ExitStatus) (goes : Bool) (now : C)
+    (reported : Option (List (Reported W))) (files : List F) (severity : Severity) (goes : Bool) (now : C)
     (reported_now : Option (List (Reported W))) : Type 0
   where
     pub tries : List (Tried F W)
     pub files_are : map (λ t. t.file) tries ≡ files
     pub tried : Tries one start tries goes now
     pub reporting : reported_now ≡ reported_after (reported_of name tries) reported
-    pub worst : status ≡ worst_from s.Done tries
-    pub all : is_done status ≡ all_well tries
+    pub worst : severity ≡ worst_from s.Done tries
+    pub all : is_done severity ≡ all_well tries

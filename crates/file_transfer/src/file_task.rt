@@ -5,7 +5,7 @@ ghost use Rattle.file_transfer.specs.Runs.{Reported, Runs, reported_after};
 
 use crate::naming::Named;
 use crate::outcome::Outcome;
-use crate::status::ExitStatus;
+use crate::severity::Severity;
 
 /// Whoever copies a file.
 pub trait FileTask {
@@ -37,31 +37,31 @@ pub trait OutcomeSink<W> {
 }
 
 /// Copies these files, one after another, and reports what came of each. The result is the worst
-/// status, which is `Done` exactly where all were copied.
+/// severity, which is `Done` exactly where what was asked for was done with each.
 pub fn run_copies<C: FileTask, T: OutcomeSink<C::Why>>(
     task: &mut C,
     sink: &mut T,
     files: &[C::File],
-) -> ExitStatus
+) -> Severity
     // Each file is tried in its turn until one ends the run, and those behind it are reported as
-    // not tried. What came of each is reported under its name, in order. The status is the worst of
+    // not tried. What came of each is reported under its name, in order. The result is the worst of
     // theirs, so it is Done exactly where what was asked for was done with each.
     ensures { (goes_on : Bool)
         × Runs C.tries C.File.name task.old (T.reported sink.old) files.now result goes_on
         task.new (T.reported sink.new) }
 {
-    let mut status = ExitStatus::Done;
+    let mut worst = Severity::Done;
     let mut goes_on = true;
     for file in files {
         if !goes_on {
             sink.report(file.name(), &Outcome::NotTried);
-            status = status.worse(ExitStatus::Refused);
+            worst = worst.worse(Severity::Refused);
             continue;
         }
         let outcome = task.try_file(file);
         sink.report(file.name(), &outcome);
-        status = status.worse(outcome.status());
+        worst = worst.worse(outcome.severity());
         goes_on = outcome.goes_on();
     }
-    status
+    worst
 }

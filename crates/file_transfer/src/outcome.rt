@@ -3,9 +3,9 @@ ghost use Rattle.std.specs.Prelude.{◌≡◌, MatchResult};
 ghost use Rattle.std.specs.IoError.{error_kind};
 ghost use Rattle.sha2.specs.Sha256.{sha256};
 ghost use Rattle.file_transfer.specs.Copied.{contents_of};
-ghost use Rattle.file_transfer.specs.Outcome.{status_of_kind, status_of_node, status_of, goes_on};
+ghost use Rattle.file_transfer.specs.Outcome.{severity_of_kind, severity_of_node, severity_of, goes_on};
 
-use crate::status::ExitStatus;
+use crate::severity::Severity;
 use crate::text::Lost;
 use chaos_file::Reply;
 use chaos_node::NodeFault;
@@ -79,44 +79,44 @@ pub enum Outcome<W> {
     NotTried,
 }
 
-/// The status after a fault of this side.
-fn status_of_kind(kind: ErrorKind) -> ExitStatus
-    ensures { result ≡ status_of_kind kind }
+/// How bad a fault of this side is.
+fn severity_of_kind(kind: ErrorKind) -> Severity
+    ensures { result ≡ severity_of_kind kind }
 {
     match kind {
-        ErrorKind::OutOfMemory => ExitStatus::NoMemory,
-        _ => ExitStatus::Fault,
+        ErrorKind::OutOfMemory => Severity::NoMemory,
+        _ => Severity::Failed,
     }
 }
 
-/// The status after a local file that could not be read or written.
-fn status_of_error(fault: &io::Error) -> ExitStatus
-    ensures { result ≡ status_of_kind (error_kind fault.now) }
+/// How bad a local file is that could not be read or written.
+fn severity_of_error(fault: &io::Error) -> Severity
+    ensures { result ≡ severity_of_kind (error_kind fault.now) }
 {
-    status_of_kind(fault.kind())
+    severity_of_kind(fault.kind())
 }
 
-/// The status after a fault by which turns ended.
-fn status_of_node(fault: NodeFault) -> ExitStatus
-    ensures { result ≡ status_of_node fault }
+/// How bad a fault is by which turns ended.
+fn severity_of_node(fault: NodeFault) -> Severity
+    ensures { result ≡ severity_of_node fault }
 {
     match fault {
-        NodeFault::NoMemory => ExitStatus::NoMemory,
-        NodeFault::Link | NodeFault::Clock => ExitStatus::Fault,
+        NodeFault::NoMemory => Severity::NoMemory,
+        NodeFault::Link | NodeFault::Clock => Severity::Failed,
     }
 }
 
 impl<W> Outcome<W> {
-    /// The status of a run over this file alone.
-    pub fn status(&self) -> ExitStatus
-        // Only a file that was copied or changed is Done. Any other status is that of what came of
-        // the file.
-        ensures { result ≡ status_of self.now }
+    /// How bad it is.
+    pub fn severity(&self) -> Severity
+        // Only a file that was copied or changed is Done. A local file, a link or a clock that
+        // failed is Failed, and out of memory is NoMemory. All else is Refused.
+        ensures { result ≡ severity_of self.now }
     {
         match self {
-            Outcome::Copied(_) | Outcome::Changed => ExitStatus::Done,
-            Outcome::Unread(fault) | Outcome::Unwritten(fault) => status_of_error(fault),
-            Outcome::Failed(fault) => status_of_node(*fault),
+            Outcome::Copied(_) | Outcome::Changed => Severity::Done,
+            Outcome::Unread(fault) | Outcome::Unwritten(fault) => severity_of_error(fault),
+            Outcome::Failed(fault) => severity_of_node(*fault),
             Outcome::Garbled(_)
             | Outcome::TooBig
             | Outcome::TooLong
@@ -125,7 +125,7 @@ impl<W> Outcome<W> {
             | Outcome::Strange(_)
             | Outcome::Unanswered(_)
             | Outcome::Unknown(_)
-            | Outcome::NotTried => ExitStatus::Refused,
+            | Outcome::NotTried => Severity::Refused,
         }
     }
 

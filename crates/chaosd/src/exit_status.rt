@@ -1,12 +1,13 @@
 //! Exit statuses.
 ghost use Rattle.std.specs.Prelude.{◌≡◌};
-ghost use Rattle.file_transfer.specs.Status.{number_of, fault_status, rank, worse, status_of_fault, status_of_run};
+ghost use Rattle.chaosd.specs.Exit.{number_of, fault_status, rank, worse, status_of_fault, status_of_files, status_of_run};
 
 use chaosd_io::RunFault;
+use file_transfer::Severity;
 
-/// How a program ended, from well to worst: of several runs the worst is reported.
-#[derive(Clone, Copy, Debug, PartialEq, Eq, PartialOrd, Ord)]
-pub enum ExitStatus {
+/// How the program ended, from well to worst: of several runs the worst is reported.
+#[derive(Clone, Copy, Debug, PartialEq, Eq)]
+pub(crate) enum ExitStatus {
     /// All was done that was asked for. Its number is 0.
     Done,
     /// Something was refused: 3.
@@ -21,7 +22,7 @@ pub enum ExitStatus {
 
 impl ExitStatus {
     /// The number that the program ends with.
-    pub fn number(self) -> u8
+    pub(crate) fn number(self) -> u8
         // From well to worst the numbers are 0, 3, 2, 1 and 4.
         ensures { result ≡ number_of self }
     {
@@ -42,7 +43,7 @@ impl ExitStatus {
     }
 
     /// The worse of two.
-    pub fn worse(self, other: ExitStatus) -> ExitStatus
+    pub(crate) fn worse(self, other: ExitStatus) -> ExitStatus
         // Of the two statuses it is the worse.
         ensures { result ≡ worse self other }
     {
@@ -54,7 +55,7 @@ impl ExitStatus {
     }
 
     /// That of a run which ended by this fault.
-    pub fn of_fault(fault: RunFault) -> ExitStatus
+    pub(crate) fn of_fault(fault: RunFault) -> ExitStatus
         // Out of memory is NoMemory, a bad line is BadLine, and every other fault is Fault.
         ensures value { result ≡ status_of_fault fault }
         // The status has the number that `fault_status` gives the fault.
@@ -72,7 +73,7 @@ impl ExitStatus {
     }
 
     /// That of a run which ended well, in which something was refused, or by a fault.
-    pub fn of_run(end: Result<bool, RunFault>) -> ExitStatus
+    pub(crate) fn of_run(end: Result<bool, RunFault>) -> ExitStatus
         // A run that did all is Done, a run in which something was refused is Refused, and a run
         // that failed has the status of its fault.
         ensures { result ≡ status_of_run end }
@@ -81,6 +82,20 @@ impl ExitStatus {
             Ok(true) => ExitStatus::Done,
             Ok(false) => ExitStatus::Refused,
             Err(fault) => ExitStatus::of_fault(fault),
+        }
+    }
+
+    /// That of a run over files, by the worst that came of one.
+    pub(crate) fn of_files(worst: Severity) -> ExitStatus
+        // All done is Done, what was refused is Refused, what failed is Fault, and out of memory is
+        // NoMemory.
+        ensures { result ≡ status_of_files worst }
+    {
+        match worst {
+            Severity::Done => ExitStatus::Done,
+            Severity::Refused => ExitStatus::Refused,
+            Severity::Failed => ExitStatus::Fault,
+            Severity::NoMemory => ExitStatus::NoMemory,
         }
     }
 }

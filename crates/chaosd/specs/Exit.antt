@@ -2,8 +2,10 @@
 use Rattle.std.specs.Prelude.{ℕ, Bool, true, false, nat_lt, if◌then◌else◌, Result, Ok, Err}
 use Rattle.chaosd_io.specs.declared.fault.RunFault.{RunFault}
 use Rattle.chaosd_io.specs.declared.fault.RunFault.TheVariants as f
-use Rattle.file_transfer.specs.declared.status.ExitStatus.{ExitStatus}
-use Rattle.file_transfer.specs.declared.status.ExitStatus.TheVariants.{Done, Refused, BadLine, Fault, NoMemory}
+use Rattle.file_transfer.specs.declared.severity.Severity.{Severity}
+use Rattle.file_transfer.specs.declared.severity.Severity.TheVariants as s
+use Rattle.chaosd.specs.declared.exit_status.ExitStatus.{ExitStatus}
+use Rattle.chaosd.specs.declared.exit_status.ExitStatus.TheVariants.{Done, Refused, BadLine, Fault, NoMemory}
 
 -- the number that a program ends with
 abbrev pub number_of : ExitStatus → ℕ
@@ -24,13 +26,6 @@ rank NoMemory = 4
 -- of two the one that is worse
 abbrev pub worse : ExitStatus → ExitStatus → ExitStatus
 worse a b = if nat_lt (rank a) (rank b) then b else a
-
-abbrev pub is_done : ExitStatus → Bool
-is_done Done = true
-is_done Refused = false
-is_done BadLine = false
-is_done Fault = false
-is_done NoMemory = false
 
 -- the number of a fault: 4 out of memory, 2 at a bad line, else 1: reading, writing, a link or the clock failed, or the input is
 -- too long
@@ -58,3 +53,10 @@ abbrev pub status_of_run : Result Bool RunFault → ExitStatus
 status_of_run (Ok true) = Done
 status_of_run (Ok false) = Refused
 status_of_run (Err fault) = status_of_fault fault
+
+-- that of a run over files, by the worst that came of one
+abbrev pub status_of_files : Severity → ExitStatus
+status_of_files s.Done = Done
+status_of_files s.Refused = Refused
+status_of_files s.Failed = Fault
+status_of_files s.NoMemory = NoMemory
