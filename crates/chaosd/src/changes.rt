@@ -70,7 +70,7 @@ impl<R: AllocGlobal + ReadableClock + Eprint> Work<R> for Delete<'_> {
 fn renamed<T: Talk, V: ProgressSink>(
     session: &mut Session<'_, T, V>,
     line: &Rename<'_>,
-) -> Outcome<T::NoReply> {
+) -> Outcome {
     if line.from.len() > MAX_PATH || line.to.len() > MAX_PATH {
         return Outcome::TooLong;
     }

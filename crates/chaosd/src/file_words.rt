@@ -4,7 +4,7 @@ ghost use Rattle.std.specs.Prelude.{None};
 use crate::dialogs::Caller;
 use chaos_file::{MAX_FILE, MAX_PATH, PrintedName, Reply, read_reply};
 use chaosd_io::RunFault;
-use file_client::{NoReply, Shown};
+use file_copy::Shown;
 use file_transfer::{Contents, Destination, Lost, Outcome, OutcomeSink};
 use std::fmt::{Display, Formatter};
 use std::{fmt, io};
@@ -120,10 +120,10 @@ fn error_text(reply: &Reply) -> &[u8] {
     refused.unwrap_or(bytes)
 }
 
-impl<R: Eprint> OutcomeSink<NoReply> for FileWords<'_, '_, '_, R> {
+impl<R: Eprint> OutcomeSink for FileWords<'_, '_, '_, R> {
     ghost reported = { λ _. None };
 
-    fn report(&mut self, name: &str, outcome: &Outcome<NoReply>) {
+    fn report(&mut self, name: &str, outcome: &Outcome) {
         let rt = self.rt;
         let name = PrintedName(name);
         let Caller {

@@ -1,6 +1,6 @@
 //! A client that waits for a server, and what it reports of that.
 use chaos_link::{DatagramSocket, LINK_ROOM, Peer};
-use file_client::NoReply;
+use file_copy::NoReply;
 use std::cell::Cell;
 use std::fmt::Display;
 use std::io;

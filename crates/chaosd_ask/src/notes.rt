@@ -8,7 +8,7 @@ ghost use Rattle.chaosd_ask.specs.Notes.{has_name, no_notes, noted, notes_after,
 use arrayvec::ArrayVec;
 use chaos_file::{MAX_HANDLE, MAX_HANDLES, ReplyParts, Said, read_reply};
 use chaosd_io::BadText;
-use file_client::NoReply;
+use file_copy::NoReply;
 use std::marker::Model;
 
 /// What is noted of a run over a script besides its result.

@@ -1,6 +1,7 @@
 pub mod ClientHost
 pub mod Calls
 pub mod Contact
+pub mod Missing
 pub mod Fault
 pub mod Pace
 pub mod Patience

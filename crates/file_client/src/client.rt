@@ -12,11 +12,10 @@ ghost use Rattle.file_client.specs.Talk.{Exchanges, SendsFarewell, Talks, SaysAt
 use crate::client_host::ClientHost;
 use crate::driver::Driver;
 use crate::limits::END_TURNS;
-use crate::reply_timer::NoReply;
 use chaos_file::Reply;
 use chaos_node::NodeFault;
 use chaos_packet::Opcode;
-use file_copy::{MOST_TURNS, Talk};
+use file_copy::{MOST_TURNS, NoReply, Talk};
 
 /// A client of a FILE server, with the driver by which it takes its turns. It says which steps it
 /// took: which commands its connection wrote, which replies it read, in which turns, and what its
@@ -203,8 +202,6 @@ impl<D: Driver> Client<'_, D> {
 }
 
 impl<D: Driver> Talk for Client<'_, D> {
-    type NoReply = NoReply;
-
     /// What it wrote and what it read, turn by turn, by one clock, and that its link was asked just
     /// what these turns ask.
     ghost talked = { λ now start talk. (D.time now.driver ≡ D.time start.driver)
@@ -220,6 +217,8 @@ impl<D: Driver> Talk for Client<'_, D> {
     ) };
 
     ghost ready = { λ _. None };
+
+    ghost missing = { λ client. client.host.now.missing };
 
     /// It counts turns as far as they can be.
     ghost course = { λ client.
@@ -393,6 +392,8 @@ impl<D: Driver> Talk for Client<'_, D> {
     /// what the server sent that ended the connection. A second call doesn't repeat what the server
     /// sent.
     fn no_reply(&mut self) -> NoReply
+        // It is what came of the turns since then.
+        ensures reason { result ≡ self.old.host.now.missing }
         // The connection and the driver don't change.
         ensures same { (self.new.host.now.caller ≡ self.old.host.now.caller)
             × (self.new.driver ≡ self.old.driver) }

@@ -3,12 +3,13 @@ ghost use Rattle.std.specs.Prelude.{◌≡◌, ◌<◌, ◌⊎◌, ◌↔◌, []
 ghost use Rattle.file_copy.specs.Talk.{Turned, counted, taken};
 ghost use Rattle.file_client.specs.Calls.{is_over};
 ghost use Rattle.file_client.specs.Caller.{Receives, ReceivesBehind, Sends, SendsOnce, all_read, asked, asked_again, caller_by, closed, doubled, is_asking, is_late};
+ghost use Rattle.file_client.specs.Missing.{noted, untried};
 
 use crate::calls::{is_over, take_reply};
 use crate::contact::Contact;
 use crate::driver::Driver;
 use crate::indices::pass_indices;
-use crate::reply_timer::{NoReply, ReplyTimer};
+use crate::reply_timer::ReplyTimer;
 use crate::route::Route;
 use chaos_conn::State;
 use chaos_file::Reply;
@@ -16,6 +17,7 @@ use chaos_host::{ConnId, Host, HostDelivered};
 use chaos_link::Carriage;
 use chaos_node::{NodeFault, TURN_ROOM};
 use chaos_packet::{Opcode, Outbox, PktNum};
+use file_copy::NoReply;
 use std::alloc::Global;
 use std::marker::Model;
 
@@ -67,6 +69,8 @@ impl Model for ClientHost {
           };
           now = c.now;
           count = c.count;
+          since = c.reply_timer.since;
+          missing = c.reply_timer.missing;
         } };
 
     ghost invariant = { λ c. c.out.cap ≡ TURN_ROOM };
@@ -197,6 +201,8 @@ impl ClientHost {
     /// what the server sent that ended the connection. A second call doesn't repeat what the server
     /// sent.
     pub(crate) fn no_reply(&mut self) -> NoReply
+        // It is what came of the turns since then.
+        ensures reason { result ≡ self.old.missing }
         // The connection doesn't change.
         ensures same { self.new.caller ≡ self.old.caller }
         // The moment and the count of turns stay.
@@ -267,7 +273,10 @@ impl ClientHost {
 
     /// A turn was taken, in which this became of the packet that came last.
     pub(crate) fn note(&mut self, last_arrival: Option<HostDelivered>)
-        ensures { self.new ≡ self.old }
+        ensures { self.new
+            ≡ record self.old {
+              missing = noted self.old.since self.old.now last_arrival self.old.missing;
+            } }
     {
         self.reply_timer.note(self.now, last_arrival);
     }
@@ -281,7 +290,7 @@ impl ClientHost {
 
     /// A connection is to be asked for, over which nothing was said yet.
     pub(crate) fn forget(&mut self)
-        ensures { self.new ≡ self.old }
+        ensures { self.new ≡ record self.old { since = self.old.now; missing = untried } }
     {
         self.unanswered = 0;
         self.reply_timer = ReplyTimer::new();

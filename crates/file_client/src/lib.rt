@@ -5,8 +5,8 @@
 //! which is a talk with a FILE server, and `client_host` its host; `calls` is what is done with the
 //! host's connection. `driver` is what drives a client, and `clock_driver` the driver by a clock,
 //! over a link. `contact` is the name that a server is asked for. `indices` passes over indices that
-//! an older process may have had; `patience` says how long a reply is waited for, `reply_timer` why
-//! none came, and `text` has bytes in words for a user. `trip` measures how long a packet and its
+//! an older process may have had; `patience` says how long a reply is waited for, and
+//! `reply_timer` why none came. `trip` measures how long a packet and its
 //! answer take.
 #![tactic(auto)]
 
@@ -21,7 +21,6 @@ mod limits;
 mod patience;
 mod reply_timer;
 mod route;
-mod text;
 mod timing;
 mod trip;
 
@@ -32,8 +31,6 @@ pub use contact::{Contact, ContactFault};
 pub use driver::Driver;
 pub use limits::law_limits;
 pub use patience::Patience;
-pub use reply_timer::NoReply;
 pub use route::Route;
-pub use text::Shown;
 pub use timing::Timing;
 pub use trip::{RoundTrip, retransmit_for, round_trip};

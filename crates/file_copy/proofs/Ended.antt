@@ -22,14 +22,14 @@ pub unless : (end : CopyEnd) (P : CopyEnd → Type 0) → P end → UnlessCopied
 unless e.Done P h = tt
 unless (e.Refused reply) P h = h
 unless (e.Strange reply) P h = h
-unless e.NoReply P h = h
+unless e.Unanswered P h = h
 unless e.Unknown P h = h
 
 pub unless_then : (end : CopyEnd) (P Q : CopyEnd → Type 0) → (P end → Q end) → UnlessCopied end P → UnlessCopied end Q
 unless_then e.Done P Q f h = tt
 unless_then (e.Refused reply) P Q f h = f h
 unless_then (e.Strange reply) P Q f h = f h
-unless_then e.NoReply P Q f h = f h
+unless_then e.Unanswered P Q f h = f h
 unless_then e.Unknown P Q f h = f h
 
 -- whoever got no reply of one kind got none of a narrower one
@@ -39,7 +39,7 @@ pub unwanted : (tid handle : List ℕ) (V W : List ℕ → Type 0) (last : Optio
 unwanted tid handle V W last e.Done f h = h
 unwanted tid handle V W last (e.Refused reply) f h = h
 unwanted tid handle V W last (e.Strange reply) f h = (h.0, h.1, λ w. h.2 (f reply.items h.0 w))
-unwanted tid handle V W last e.NoReply f h = h
+unwanted tid handle V W last e.Unanswered f h = h
 unwanted tid handle V W last e.Unknown f h = h
 
 -- whoever got a reply that isn't the one that was wanted got none that is

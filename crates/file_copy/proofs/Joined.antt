@@ -19,14 +19,14 @@ pub not_copied : (tid handle : List ℕ) (Wanted : List ℕ → Type 0) (last : 
 not_copied tid handle Wanted last e.Done P h = absurd h
 not_copied tid handle Wanted last (e.Refused reply) P h = tt
 not_copied tid handle Wanted last (e.Strange reply) P h = tt
-not_copied tid handle Wanted last e.NoReply P h = tt
+not_copied tid handle Wanted last e.Unanswered P h = tt
 not_copied tid handle Wanted last e.Unknown P h = tt
 
 pub copied_then : (end : CopyEnd) (P Q : Type 0) → (P → Q) → IfCopied end P → IfCopied end Q
 copied_then e.Done P Q f h = f h
 copied_then (e.Refused reply) P Q f h = tt
 copied_then (e.Strange reply) P Q f h = tt
-copied_then e.NoReply P Q f h = tt
+copied_then e.Unanswered P Q f h = tt
 copied_then e.Unknown P Q f h = tt
 
 pub from_copied : (end : CopyEnd) (P Q : Type 0) → IfCopied end P → (P → Q) → IfCopied end Q
@@ -36,7 +36,7 @@ pub when_copied : (end : CopyEnd) (P : Type 0) → end ≡ e.Done → IfCopied e
 when_copied e.Done P s h = h
 when_copied (e.Refused reply) P s h = cc
 when_copied (e.Strange reply) P s h = cc
-when_copied e.NoReply P s h = cc
+when_copied e.Unanswered P s h = cc
 when_copied e.Unknown P s h = cc
 
 pub upto_same : {A : Type 0} (f g : ℕ → A) (k : ℕ) → ((i : ℕ) → i < k → f i ≡ g i) → upto f k ≡ upto g k

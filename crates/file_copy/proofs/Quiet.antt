@@ -61,8 +61,8 @@ pub unanswered_by : (last : Option (List ℕ)) (tid handle : List ℕ) (W : List
 unanswered_by last tid handle W e.Done P Q h w f = tt
 unanswered_by last tid handle W (e.Refused reply) P Q h w f = tt
 unanswered_by last tid handle W (e.Strange reply) P Q h w f = tt
-unanswered_by None tid handle W e.NoReply P Q h w f = f w
-unanswered_by (Some x) tid handle W e.NoReply P Q h w f = absurd (none_some x (sym h))
+unanswered_by None tid handle W e.Unanswered P Q h w f = f w
+unanswered_by (Some x) tid handle W e.Unanswered P Q h w f = absurd (none_some x (sym h))
 unanswered_by last tid handle W e.Unknown P Q h w f = absurd h
 
 pub where_none : (came : Bool) (reply : List ℕ) (P : Type 0) → came ≡ false

@@ -16,7 +16,7 @@ abbrev pub IfCopied : CopyEnd → Type 0 → Type 0
 IfCopied e.Done P = P
 IfCopied (e.Refused reply) P = Unit {0}
 IfCopied (e.Strange reply) P = Unit {0}
-IfCopied e.NoReply P = Unit {0}
+IfCopied e.Unanswered P = Unit {0}
 IfCopied e.Unknown P = Unit {0}
 
 -- where the file was copied
@@ -92,7 +92,7 @@ abbrev pub UnlessCopied : CopyEnd → (CopyEnd → Type 0) → Type 0
 UnlessCopied e.Done P = Unit {0}
 UnlessCopied (e.Refused reply) P = P (e.Refused reply)
 UnlessCopied (e.Strange reply) P = P (e.Strange reply)
-UnlessCopied e.NoReply P = P e.NoReply
+UnlessCopied e.Unanswered P = P e.Unanswered
 UnlessCopied e.Unknown P = P e.Unknown
 
 -- where a copy came to an end without a fault, and the file was not copied
@@ -105,7 +105,7 @@ abbrev pub UnlessAnswered : CopyEnd → Type 0 → Type 0
 UnlessAnswered e.Done P = Unit {0}
 UnlessAnswered (e.Refused reply) P = Unit {0}
 UnlessAnswered (e.Strange reply) P = Unit {0}
-UnlessAnswered e.NoReply P = P
+UnlessAnswered e.Unanswered P = P
 UnlessAnswered e.Unknown P = P
 
 -- where a copy came to an end without a fault since no reply came
@@ -116,7 +116,7 @@ IfUnanswered (Err fault) P = Unit {0}
 -- how a put ends where CLOSE got no reply, and was sent or wasn't
 abbrev pub unanswered : Bool → CopyEnd
 unanswered true = e.Unknown
-unanswered false = e.NoReply
+unanswered false = e.Unanswered
 
 -- an error reply to the command of this name
 abbrev pub IsErrorTo : List ℕ → List ℕ → List ℕ → Type 0
@@ -128,7 +128,7 @@ EndedBy tid handle Wanted last e.Done = ⊥
 EndedBy tid handle Wanted last (e.Refused reply) = (last ≡ Some reply.items) × IsErrorTo tid handle reply.items
 EndedBy tid handle Wanted last (e.Strange reply) =
     (last ≡ Some reply.items) × (IsErrorTo tid handle reply.items → ⊥) × (Wanted reply.items → ⊥)
-EndedBy tid handle Wanted last e.NoReply = last ≡ None
+EndedBy tid handle Wanted last e.Unanswered = last ≡ None
 EndedBy tid handle Wanted last e.Unknown = ⊥
 
 -- Since then these replies were received, and then the last, or none, by which the copy ended.
@@ -159,7 +159,7 @@ PutEnded start now tid handle path bytes end =
     ⊎ (((end ≡ e.Unknown)
     × Since start now (put_commands tid handle path bytes)
     (put_front_replies tid handle bytes (chunk_count (length bytes))))
-    ⊎ ((end ≡ e.NoReply)
+    ⊎ ((end ≡ e.Unanswered)
     × Since start now (put_front tid handle path bytes (chunk_count (length bytes)))
     (put_front_replies tid handle bytes (chunk_count (length bytes)))))))
 

@@ -36,7 +36,7 @@ pub fn rename_file<T: Talk, O: Observer>(
         (Since (T.talked talk.old) (T.talked talk.new) (rename_command tid old.now new.now ∷ [])
         (rename_reply tid ∷ [])) }
     // Otherwise `Refused` is an error reply to the RENAME, `Strange` is neither such a reply nor
-    // the one that was hoped for, and each is the one reply that was received. With `NoReply` none
+    // the one that was hoped for, and each is the one reply that was received. With `Unanswered` none
     // was.
     ensures ended { UnlessDone result
         (EndedAt (T.talked talk.old) (T.talked talk.new) [] (decimal tid) []
@@ -81,7 +81,7 @@ pub fn delete_file<T: Talk, O: Observer>(
         (Since (T.talked talk.old) (T.talked talk.new) (delete_command tid path.now ∷ [])
         (delete_reply tid ∷ [])) }
     // Otherwise `Refused` is an error reply to the DELETE, `Strange` is neither such a reply nor
-    // the one that was hoped for, and each is the one reply that was received. With `NoReply` none
+    // the one that was hoped for, and each is the one reply that was received. With `Unanswered` none
     // was.
     ensures ended { UnlessDone result
         (EndedAt (T.talked talk.old) (T.talked talk.new) [] (decimal tid) []

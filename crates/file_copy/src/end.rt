@@ -12,7 +12,7 @@ pub enum CopyEnd {
     Strange(Reply),
     /// No reply came for the talk's patience, or within 1,000 turns and 10 seconds where it has
     /// none; or the connection ended before one.
-    NoReply,
+    Unanswered,
     /// Likewise, but to the CLOSE of a put, which was sent: whether the file was put isn't known.
     Unknown,
 }

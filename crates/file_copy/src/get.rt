@@ -182,7 +182,7 @@ pub fn get_file<T: Talk, O: Observer>(
     // these bytes begin with, or none yet, and then at most one, to the next command. `Refused` is
     // an error reply to it. `Strange` is neither such a reply nor one that a file of FILE has: to
     // OPEN a length of at most 1,048,576, to a READ as many bytes as a file of that length has
-    // there, EOF behind the last, and to CLOSE that length. With `NoReply` none came.
+    // there, EOF behind the last, and to CLOSE that length. With `Unanswered` none came.
     ensures ended { UnlessDone result
         (GetEnded (T.talked talk.old) (T.talked talk.new) (tids_from first) file_handle
         bytes.new.items) }

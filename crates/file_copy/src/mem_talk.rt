@@ -1,5 +1,5 @@
 //! A talk with a FILE server in memory.
-ghost use Rattle.std.specs.Prelude.{◌≡◌, ◌≤◌, [], ◌*◌, false, length, take, drop, map, min, option_map, None, Some, Err};
+ghost use Rattle.std.specs.Prelude.{◌≡◌, ◌≤◌, [], ◌*◌, false, length, take, drop, map, min, option_map, true, None, Some, Err};
 ghost use Rattle.chaos_packet.specs.Count.{max_count};
 ghost use Rattle.std.specs.FinMap as fin;
 ghost use Rattle.chaos_file.specs.declared.error.FileError.TheVariants.{NoMemory};
@@ -13,6 +13,7 @@ ghost use Rattle.file_copy.specs.Memory.{Answered, StepsOrStays, nothing_more, t
 ghost use Rattle.file_copy.specs.Talk.{Talked, counted, silence, with_received, with_sent};
 
 use crate::bytes::{copied, fill};
+use crate::no_reply::NoReply;
 use crate::talk::Talk;
 use chaos_file::{MemStore, Reply, ReplyParts, Said, Session, parse_command, write_reply};
 use chaos_node::NodeFault;
@@ -100,8 +101,6 @@ impl MemTalk {
 }
 
 impl Talk for MemTalk {
-    type NoReply = ();
-
     ghost talked = { λ now start talk. (talked_of (map (λ v. v.items) now.sent.items)
         (map (λ v. v.items) now.replies.items) now.received)
         ≡ with_received talk.received
@@ -123,6 +122,13 @@ impl Talk for MemTalk {
       failures
           = 0;
       patience = None;
+    } };
+
+    /// Its server is there, and has ended nothing.
+    ghost missing = { λ t. record {
+      waited = min (t.turns * 10) max_count;
+      is_open = true;
+      end = None;
     } };
 
     /// No turn fails.
@@ -174,6 +180,11 @@ impl Talk for MemTalk {
 
     fn end(&mut self, may_wait: bool) {}
 
-    /// Nothing is known.
-    fn no_reply(&mut self) {}
+    fn no_reply(&mut self) -> NoReply {
+        NoReply {
+            waited: self.moment(),
+            is_open: true,
+            end: None,
+        }
+    }
 }

@@ -77,7 +77,7 @@ fn unanswered(is_sent: bool) -> CopyEnd
     if is_sent {
         CopyEnd::Unknown
     } else {
-        CopyEnd::NoReply
+        CopyEnd::Unanswered
     }
 }
 
@@ -106,7 +106,7 @@ pub fn put_file<T: Talk, O: Observer>(
         (put_replies (tids_from first) file_handle bytes.now)) }
     // Otherwise the replies that were received are the right ones to the commands before some
     // command, and then at most one. `Refused` is an error reply to that command, and `Strange` is
-    // neither such a reply nor the one that was hoped for. With `NoReply` none came to OPEN or to a
+    // neither such a reply nor the one that was hoped for. With `Unanswered` none came to OPEN or to a
     // WRITE, or CLOSE could not be sent. With `Unknown` CLOSE was sent, after all else was answered
     // as it should be, and got none.
     ensures ended { UnlessDone result

@@ -3,16 +3,15 @@ ghost use Rattle.std.specs.Prelude.{◌≡◌, ◌≤◌, [], ℕ, List, Option,
 ghost use Rattle.file_copy.specs.Talk.{Talked, Course, More, Next, Since, Turned, received_in, sent_if, silence, taken};
 ghost use Rattle.chaos_file.specs.declared.limits.TheConstants.{MAX_REPLY};
 ghost use Rattle.chaos_node.specs.declared.fault.NodeFault.{NodeFault};
+ghost use Rattle.file_copy.specs.declared.no_reply.NoReply.{NoReply};
 
+use crate::no_reply::NoReply;
 use chaos_file::Reply;
 use chaos_node::NodeFault;
 
 /// A talk with a FILE server over one connection after another: commands go out, and replies come
 /// back in the same order.
 pub trait Talk {
-    /// Why no reply came.
-    type NoReply: Drop;
-
     /// What may have been sent and received up to this state, since that one: the commands and the
     /// replies, each in order.
     ghost talked: { Self → Self → Talked → Type 0 };
@@ -27,6 +26,9 @@ pub trait Talk {
     /// last, whether no more replies come than are there, the failures that were counted, and its
     /// patience.
     ghost course: { Self → Course };
+
+    /// Why no reply came, as far as the talk knows.
+    ghost missing: { Self → NoReply };
 
     /// The faults that may have ended the last turn.
     ghost failed_by: { Self → NodeFault → Type 0 };
@@ -113,7 +115,9 @@ pub trait Talk {
         ensures { (course self.new).patience ≡ (course self.old).patience };
 
     /// Why no reply came, as far as is known.
-    fn no_reply(&mut self) -> Self::NoReply
+    fn no_reply(&mut self) -> NoReply
+        // It is what the talk knows of that.
+        ensures reason { result ≡ missing self.old }
         // The talk has come no further.
-        ensures { course self.new ≡ course self.old };
+        ensures still { course self.new ≡ course self.old };
 }

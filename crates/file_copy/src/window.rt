@@ -335,7 +335,7 @@ pub fn refusal(came: bool, reply: &Reply, tid: u32, handle: &[u8]) -> CopyEnd
     ensures { EndedBy (decimal tid) handle.now (λ _. ⊥) (taken came reply.now.items) result }
 {
     if !came {
-        return CopyEnd::NoReply;
+        return CopyEnd::Unanswered;
     }
     let kept = copied(reply.as_slice());
     if is_error(reply, tid, handle) {
@@ -384,7 +384,7 @@ pub fn log_in<T: Talk, O: Observer>(
         (Since (T.talked talk.old) (T.talked talk.new) (login_command name.now ∷ [])
         (login_reply name.now ∷ [])) }
     // Otherwise `Refused` is an error reply to the LOGIN, `Strange` is neither such a reply nor the
-    // one that was hoped for, and each is the one reply that was received. With `NoReply` none was.
+    // one that was hoped for, and each is the one reply that was received. With `Unanswered` none was.
     ensures ended { UnlessDone result
         (EndedAt (T.talked talk.old) (T.talked talk.new) [] (decimal 0) []
         (λ r. r ≡ login_reply name.now)) }

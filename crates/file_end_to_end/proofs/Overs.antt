@@ -66,6 +66,6 @@ pub done_then : (end : Result CopyEnd NodeFault) (P Q : Type 0) → (P → Q) �
 done_then (Ok e.Done) P Q f p = f p
 done_then (Ok (e.Refused reply)) P Q f p = tt
 done_then (Ok (e.Strange reply)) P Q f p = tt
-done_then (Ok e.NoReply) P Q f p = tt
+done_then (Ok e.Unanswered) P Q f p = tt
 done_then (Ok e.Unknown) P Q f p = tt
 done_then (Err fault) P Q f p = tt

@@ -15,12 +15,12 @@ pub done_then : (end : Result CopyEnd NodeFault) (P Q : Type 0) → (P → Q) �
 done_then (Ok e.Done) P Q f p = f p
 done_then (Ok (e.Refused reply)) P Q f p = tt
 done_then (Ok (e.Strange reply)) P Q f p = tt
-done_then (Ok e.NoReply) P Q f p = tt
+done_then (Ok e.Unanswered) P Q f p = tt
 done_then (Ok e.Unknown) P Q f p = tt
 done_then (Err fault) P Q f p = tt
 
 -- what wasn't done was no change
-pub not_changed : {W : Type 0} (outcome : Outcome W) (P : Type 0) → is_well outcome ≡ false → IfChanged outcome P
+pub not_changed : (outcome : Outcome) (P : Type 0) → is_well outcome ≡ false → IfChanged outcome P
 not_changed (o.Copied contents) P h = tt
 not_changed o.Changed P h = absurd (cc)
 not_changed (o.Garbled lost) P h = tt
@@ -37,7 +37,7 @@ not_changed (o.Unknown why) P h = tt
 not_changed o.NotTried P h = tt
 
 -- what wasn't done was no copy
-not_copied : {W : Type 0} (outcome : Outcome W) (P : Contents → Type 0) (Q : Type 0) → is_well outcome ≡ false → Q
+not_copied : (outcome : Outcome) (P : Contents → Type 0) (Q : Type 0) → is_well outcome ≡ false → Q
     → MatchCopied outcome P Q
 not_copied (o.Copied contents) P Q h q = absurd (cc)
 not_copied o.Changed P Q h q = q
@@ -55,7 +55,7 @@ not_copied (o.Unknown why) P Q h q = q
 not_copied o.NotTried P Q h q = q
 
 -- what came of a try that copied the file, or else missed it
-pub of_tried : {W : Type 0} (tried : Result Contents (Outcome W)) (outcome : Outcome W) (P R : Contents → Type 0)
+pub of_tried : (tried : Result Contents Outcome) (outcome : Outcome) (P R : Contents → Type 0)
     (Q : Type 0)
     → MatchResult tried (λ contents. outcome ≡ o.Copied contents) (λ missed. outcome ≡ missed)
     → ((contents : Contents) → R contents → P contents) → IfOk tried R → IfErr tried (λ missed. is_well missed ≡ false)

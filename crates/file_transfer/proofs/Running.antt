@@ -14,7 +14,7 @@ use Rattle.file_transfer.specs.Severity.{worse, is_done}
 use Rattle.file_transfer.specs.Outcome.{severity_of, severity_of_kind, severity_of_node, is_well, goes_on}
 use Rattle.file_transfer.specs.Runs.{Reported, Tried, Tries, none, tried, left, Runs, worst_from, all_well, reported_after, reported_of}
 
-worst_more : {F W : Type 0} (severity : Severity) (files : List (Tried F W)) (file : Tried F W)
+worst_more : {F : Type 0} (severity : Severity) (files : List (Tried F)) (file : Tried F)
     → worst_from severity (files ++ file ∷ []) ≡ worse (worst_from severity files) (severity_of file.outcome)
 worst_more severity [] file = refl
 worst_more severity (first ∷ files) file = worst_more (worse severity (severity_of first.outcome)) files file
@@ -47,7 +47,7 @@ fault_not_done f.Clock = refl
 fault_not_done f.NoMemory = refl
 
 -- all is well of a file exactly where what was asked for was done
-done_well : {W : Type 0} (outcome : Outcome W) → is_done (severity_of outcome) ≡ is_well outcome
+done_well : (outcome : Outcome) → is_done (severity_of outcome) ≡ is_well outcome
 done_well (o.Copied contents) = refl
 done_well o.Changed = refl
 done_well (o.Garbled lost) = refl
@@ -71,36 +71,36 @@ and_assoc : (a b c : Bool) → (a && (b && c)) ≡ ((a && b) && c)
 and_assoc true b c = refl
 and_assoc false b c = refl
 
-all_more : {F W : Type 0} (files : List (Tried F W)) (file : Tried F W)
+all_more : {F : Type 0} (files : List (Tried F)) (file : Tried F)
     → all_well (files ++ file ∷ []) ≡ (all_well files && is_well file.outcome)
 all_more [] file = and_true (is_well file.outcome)
 all_more (first ∷ files) file =
     ap (λ b. is_well first.outcome && b) (all_more files file)
     ∙ and_assoc (is_well first.outcome) (all_well files) (is_well file.outcome)
 
-files_more : {F W : Type 0} (files : List (Tried F W)) (file : Tried F W)
+files_more : {F : Type 0} (files : List (Tried F)) (file : Tried F)
     → map (λ f. f.file) (files ++ file ∷ []) ≡ map (λ f. f.file) files ++ file.file ∷ []
 files_more [] file = refl
 files_more (first ∷ files) file = ap (λ fs. first.file ∷ fs) (files_more files file)
 
-reported_of_more : {F W : Type 0} (name : F → List ℕ) (files : List (Tried F W)) (file : Tried F W)
+reported_of_more : {F : Type 0} (name : F → List ℕ) (files : List (Tried F)) (file : Tried F)
     → reported_of name (files ++ file ∷ [])
     ≡ reported_of name files ++ record { name = name file.file; outcome = file.outcome } ∷ []
 reported_of_more name [] file = refl
 reported_of_more name (first ∷ files) file =
     ap (λ fs. record { name = name first.file; outcome = first.outcome } ∷ fs) (reported_of_more name files file)
 
-reported_none : {W : Type 0} (reported : Option (List (Reported W))) → reported ≡ reported_after [] reported
+reported_none : (reported : Option (List Reported)) → reported ≡ reported_after [] reported
 reported_none None = refl
 reported_none (Some before) = ap Some (sym (append-nil before))
 
-reported_more : {W : Type 0} (files : List (Reported W)) (file : Reported W) (reported : Option (List (Reported W)))
+reported_more : (files : List Reported) (file : Reported) (reported : Option (List Reported))
     → reported_after (file ∷ []) (reported_after files reported) ≡ reported_after (files ++ file ∷ []) reported
 reported_more files file None = refl
 reported_more files file (Some before) = ap Some (append_assoc before files (file ∷ []))
 
-module _ {C F W : Type 0} (one : C → F → Outcome W → C → Type 0) (name : F → List ℕ) (start : C)
-    (reported : Option (List (Reported W))) where
+module _ {C F : Type 0} (one : C → F → Outcome → C → Type 0) (name : F → List ℕ) (start : C)
+    (reported : Option (List Reported)) where
   pub began : Runs one name start reported [] s.Done true start reported
   began = record {
     tries = [];
@@ -112,14 +112,14 @@ module _ {C F W : Type 0} (one : C → F → Outcome W → C → Type 0) (name :
   }
 
   more : (files : List F) (severity : Severity) (goes goes_then : Bool) (c d : C)
-      (reported_now : Option (List (Reported W))) (file : F) (outcome : Outcome W)
+      (reported_now : Option (List Reported)) (file : F) (outcome : Outcome)
       → (run : Runs one name start reported files severity goes c reported_now)
       → Tries one start (run.tries ++ record { file = file; outcome = outcome } ∷ []) goes_then d
       → Runs one name start reported (files ++ file ∷ []) (worse severity (severity_of outcome)) goes_then d
       (reported_after (record { name = name file; outcome = outcome } ∷ []) reported_now)
   more files severity goes goes_then c d reported_now file outcome run then =
-      let this : Tried F W = record { file = file; outcome = outcome } in
-      let word : Reported W = record { name = name file; outcome = outcome } in
+      let this : Tried F = record { file = file; outcome = outcome } in
+      let word : Reported = record { name = name file; outcome = outcome } in
       record {
         tries = run.tries ++ this ∷ [];
         files_are = files_more run.tries this ∙ ap (λ fs. fs ++ file ∷ []) run.files_are;
@@ -134,8 +134,8 @@ module _ {C F W : Type 0} (one : C → F → Outcome W → C → Type 0) (name :
       }
 
   -- one file more, which was tried
-  pub one_tried : (files : List F) (severity : Severity) (c d : C) (reported_now : Option (List (Reported W))) (file : F)
-      (outcome : Outcome W)
+  pub one_tried : (files : List F) (severity : Severity) (c d : C) (reported_now : Option (List Reported)) (file : F)
+      (outcome : Outcome)
       → one c file outcome d → Runs one name start reported files severity true c reported_now
       → Runs one name start reported (files ++ file ∷ []) (worse severity (severity_of outcome)) (goes_on outcome) d
       (reported_after (record { name = name file; outcome = outcome } ∷ []) reported_now)
@@ -144,7 +144,7 @@ module _ {C F W : Type 0} (one : C → F → Outcome W → C → Type 0) (name :
       (tried run.tries c d file outcome run.tried fact)
 
   -- one file more, which was left
-  pub one_left : (files : List F) (severity : Severity) (c : C) (reported_now : Option (List (Reported W))) (file : F)
+  pub one_left : (files : List F) (severity : Severity) (c : C) (reported_now : Option (List Reported)) (file : F)
       → Runs one name start reported files severity false c reported_now
       → Runs one name start reported (files ++ file ∷ []) (worse severity s.Refused) false c
       (reported_after (record { name = name file; outcome = o.NotTried } ∷ []) reported_now)

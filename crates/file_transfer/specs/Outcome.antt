@@ -23,7 +23,7 @@ severity_of_node n.Link = s.Failed
 severity_of_node n.Clock = s.Failed
 
 -- all is well only where the file was copied, or was changed as was asked
-abbrev pub severity_of : {W : Type 0} → Outcome W → Severity
+abbrev pub severity_of : Outcome → Severity
 severity_of (Copied contents) = s.Done
 severity_of Changed = s.Done
 severity_of (Garbled lost) = s.Refused
@@ -40,7 +40,7 @@ severity_of (Unknown why) = s.Refused
 severity_of NotTried = s.Refused
 
 -- whether what was asked for was done
-abbrev pub is_well : {W : Type 0} → Outcome W → Bool
+abbrev pub is_well : Outcome → Bool
 is_well (Copied contents) = true
 is_well Changed = true
 is_well (Garbled lost) = false
@@ -57,7 +57,7 @@ is_well (Unknown why) = false
 is_well NotTried = false
 
 -- whether the next file is tried: not after a fault of the run, nor where the connection may be bad
-abbrev pub goes_on : {W : Type 0} → Outcome W → Bool
+abbrev pub goes_on : Outcome → Bool
 goes_on (Copied contents) = true
 goes_on Changed = true
 goes_on (Garbled lost) = true
@@ -74,7 +74,7 @@ goes_on (Unknown why) = false
 goes_on NotTried = false
 
 -- P of a file that was copied, and Q of another
-abbrev pub MatchCopied : {W : Type 0} → Outcome W → (Contents → Type 0) → Type 0 → Type 0
+abbrev pub MatchCopied : Outcome → (Contents → Type 0) → Type 0 → Type 0
 MatchCopied (Copied contents) P Q = P contents
 MatchCopied Changed P Q = Q
 MatchCopied (Garbled lost) P Q = Q
@@ -91,7 +91,7 @@ MatchCopied (Unknown why) P Q = Q
 MatchCopied NotTried P Q = Q
 
 -- P where a file was changed
-abbrev pub IfChanged : {W : Type 0} → Outcome W → Type 0 → Type 0
+abbrev pub IfChanged : Outcome → Type 0 → Type 0
 IfChanged (Copied contents) P = Unit {0}
 IfChanged Changed P = P
 IfChanged (Garbled lost) P = Unit {0}

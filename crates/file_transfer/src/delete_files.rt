@@ -20,14 +20,12 @@ pub struct DeleteFiles<'a, T: Talk, V: ProgressSink> {
 impl<'a, T: Talk, V: ProgressSink> FileTask for DeleteFiles<'a, T, V> {
     type File = &'a str;
 
-    type Why = T::NoReply;
-
     /// A file is reported as changed only where the last that was sent and received is its DELETE,
     /// and that it was done.
     ghost tries = { λ _ path outcome new. IfChanged outcome
         (HasDeleted path.now (T.talked new.session.talk)) };
 
-    fn try_file(&mut self, path: &&'a str) -> Outcome<T::NoReply> {
+    fn try_file(&mut self, path: &&'a str) -> Outcome {
         if path.len() > MAX_PATH {
             return Outcome::TooLong;
         }

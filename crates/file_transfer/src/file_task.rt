@@ -12,25 +12,22 @@ pub trait FileTask {
     /// What is copied: a file with a name.
     type File: Named;
 
-    /// Why no reply came.
-    type Why: Drop;
-
     /// What a try at a file may come to, from one state to the next.
-    ghost tries: { Self → Self.File → Outcome Self.Why → Self → Type 0 };
+    ghost tries: { Self → Self.File → Outcome → Self → Type 0 };
 
     /// Tries to copy this file.
-    fn try_file(&mut self, file: &Self::File) -> Outcome<Self::Why>
+    fn try_file(&mut self, file: &Self::File) -> Outcome
         // A try comes to what the task says that it may come to.
         ensures { tries self.old file.now result self.new };
 }
 
 /// Whoever gets the outcome of each file.
-pub trait OutcomeSink<W> {
+pub trait OutcomeSink {
     /// What was reported so far, in order. `None` for a sink that claims nothing.
-    ghost reported: { Self → Option (List (Reported W)) };
+    ghost reported: { Self → Option (List Reported) };
 
     /// This came of the file of this name.
-    fn report(&mut self, name: &str, outcome: &Outcome<W>)
+    fn report(&mut self, name: &str, outcome: &Outcome)
         // What was reported before is followed by what came of this file, under its name.
         ensures { reported self.new
             ≡ reported_after (record { name = name.now; outcome = outcome.now } ∷ []) (reported self.old) };
@@ -38,7 +35,7 @@ pub trait OutcomeSink<W> {
 
 /// Copies these files, one after another, and reports what came of each. The result is the worst
 /// severity, which is `Done` exactly where what was asked for was done with each.
-pub fn run_copies<C: FileTask, T: OutcomeSink<C::Why>>(
+pub fn run_copies<C: FileTask, T: OutcomeSink>(
     task: &mut C,
     sink: &mut T,
     files: &[C::File],

@@ -37,7 +37,7 @@ pub struct GetFiles<'a, T: Talk, L: LocalFiles, V: ProgressSink> {
 
 impl<T: Talk, L: LocalFiles, V: ProgressSink> GetFiles<'_, T, L, V> {
     /// The bytes of a file, as a text where that is asked for.
-    fn bytes_of(&mut self, path: &str) -> Result<Vec<u8>, Outcome<T::NoReply>>
+    fn bytes_of(&mut self, path: &str) -> Result<Vec<u8>, Outcome>
         requires { length path.now ≤ MAX_PATH }
         ensures got { IfOk result
             (λ v. (bytes : List ℕ) × HasGot path.now bytes (T.talked self.new.session.talk)
@@ -57,7 +57,7 @@ impl<T: Talk, L: LocalFiles, V: ProgressSink> GetFiles<'_, T, L, V> {
     }
 
     /// Writes a local file.
-    fn keep(&mut self, local: &str, bytes: &[u8]) -> Result<Contents, Outcome<T::NoReply>>
+    fn keep(&mut self, local: &str, bytes: &[u8]) -> Result<Contents, Outcome>
         ensures written { IfOk result
             (λ contents. (contents ≡ contents_of self.old.is_digested bytes.now)
             × (L.written self.new.locals ≡ written_after local.now bytes.now (L.written self.old.locals))) }
@@ -76,7 +76,7 @@ impl<T: Talk, L: LocalFiles, V: ProgressSink> GetFiles<'_, T, L, V> {
 
     /// Gets a file into a local one, of which it is made sure before anything is said that it can
     /// be written.
-    fn get_into(&mut self, path: &str, local: &str) -> Result<Contents, Outcome<T::NoReply>>
+    fn get_into(&mut self, path: &str, local: &str) -> Result<Contents, Outcome>
         ensures got { IfOk result
             (λ contents. GetsWhole path.now local.now self.old.is_text self.old.is_digested contents
             (T.talked self.new.session.talk) (L.written self.old.locals)
@@ -103,8 +103,6 @@ impl<T: Talk, L: LocalFiles, V: ProgressSink> GetFiles<'_, T, L, V> {
 impl<'a, T: Talk, L: LocalFiles, V: ProgressSink> FileTask for GetFiles<'a, T, L, V> {
     type File = &'a str;
 
-    type Why = T::NoReply;
-
     /// A file is reported as copied only where the last that was sent and received is all that gets
     /// this path's bytes, and exactly these, as a text where that is asked for, were then written
     /// to the local file that the path goes to. The count and the digest that are reported are
@@ -116,7 +114,7 @@ impl<'a, T: Talk, L: LocalFiles, V: ProgressSink> FileTask for GetFiles<'a, T, L
         × ((new.destination ≡ old.destination) × (new.is_text ≡ old.is_text)
         × (new.is_digested ≡ old.is_digested)) };
 
-    fn try_file(&mut self, path: &&'a str) -> Outcome<T::NoReply> {
+    fn try_file(&mut self, path: &&'a str) -> Outcome {
         let Ok(local) = self.destination.local(self.alloc, path) else {
             return Outcome::Failed(NodeFault::NoMemory);
         };

@@ -9,6 +9,7 @@ use crate::severity::Severity;
 use crate::text::Lost;
 use chaos_file::Reply;
 use chaos_node::NodeFault;
+use file_copy::NoReply;
 use sha2::{Digest, Sha256};
 use std::io;
 use std::io::ErrorKind;
@@ -46,9 +47,9 @@ impl Contents {
     }
 }
 
-/// What came of one file. `W` says why no reply came.
+/// What came of one file.
 #[derive(Drop)]
-pub enum Outcome<W> {
+pub enum Outcome {
     /// It was copied whole.
     Copied(Contents),
     /// It was changed at the server as was asked for.
@@ -72,9 +73,9 @@ pub enum Outcome<W> {
     /// A reply came that answers no such command.
     Strange(Reply),
     /// No reply came.
-    Unanswered(W),
+    Unanswered(NoReply),
     /// None came to the CLOSE of a put: whether the file was put isn't known.
-    Unknown(W),
+    Unknown(NoReply),
     /// The run had ended before.
     NotTried,
 }
@@ -106,7 +107,7 @@ fn severity_of_node(fault: NodeFault) -> Severity
     }
 }
 
-impl<W> Outcome<W> {
+impl Outcome {
     /// How bad it is.
     pub fn severity(&self) -> Severity
         // Only a file that was copied or changed is Done. A local file, a link or a clock that

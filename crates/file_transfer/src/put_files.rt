@@ -29,12 +29,7 @@ pub struct PutFiles<'a, T: Talk, L: LocalFiles, V: ProgressSink> {
 
 impl<T: Talk, L: LocalFiles, V: ProgressSink> PutFiles<'_, T, L, V> {
     /// Puts the bytes that were read of a local file.
-    fn put_bytes(
-        &mut self,
-        local: &str,
-        path: &[u8],
-        bytes: Vec<u8>,
-    ) -> Result<Contents, Outcome<T::NoReply>>
+    fn put_bytes(&mut self, local: &str, path: &[u8], bytes: Vec<u8>) -> Result<Contents, Outcome>
         requires path { length path.now ≤ MAX_PATH }
         requires fits { length bytes.items ≤ MAX_FILE }
         ensures put { IfOk result
@@ -61,8 +56,6 @@ impl<T: Talk, L: LocalFiles, V: ProgressSink> PutFiles<'_, T, L, V> {
 impl<'a, T: Talk, L: LocalFiles, V: ProgressSink> FileTask for PutFiles<'a, T, L, V> {
     type File = PutFile<'a>;
 
-    type Why = T::NoReply;
-
     /// A file is reported as copied only where the last that was sent and received is all that puts
     /// what the local file has, as a text where that is asked for, to the path that it goes to.
     ghost tries = { λ old file outcome new. MatchCopied outcome
@@ -73,7 +66,7 @@ impl<'a, T: Talk, L: LocalFiles, V: ProgressSink> FileTask for PutFiles<'a, T, L
         × ((new.is_text ≡ old.is_text) × (new.is_digested ≡ old.is_digested)) };
 
     /// The file is read whole before anything is sent.
-    fn try_file(&mut self, file: &PutFile<'a>) -> Outcome<T::NoReply> {
+    fn try_file(&mut self, file: &PutFile<'a>) -> Outcome {
         let Some(path) = &file.path else {
             return Outcome::Unnamed;
         };

@@ -56,7 +56,7 @@ impl<'a, T: Talk, V: ProgressSink> Session<'a, T, V> {
     }
 
     /// Makes sure that there is a connection and that the user has logged in.
-    fn enter(&mut self) -> Result<(), Outcome<T::NoReply>>
+    fn enter(&mut self) -> Result<(), Outcome>
         ensures { IfErr result (λ outcome. is_well outcome ≡ false) }
     {
         let end = self.begin();
@@ -77,7 +77,7 @@ impl<'a, T: Talk, V: ProgressSink> Session<'a, T, V> {
     }
 
     /// Gets a file, and shows how far it has come.
-    pub(crate) fn get(&mut self, path: &str, bytes: &mut Vec<u8>) -> Result<(), Outcome<T::NoReply>>
+    pub(crate) fn get(&mut self, path: &str, bytes: &mut Vec<u8>) -> Result<(), Outcome>
         requires path { length path.now ≤ MAX_PATH }
         requires empty { bytes.old.items ≡ [] }
         ensures got { OnOk result
@@ -103,12 +103,7 @@ impl<'a, T: Talk, V: ProgressSink> Session<'a, T, V> {
     }
 
     /// Puts a file, and shows how far the local one has come.
-    pub(crate) fn put(
-        &mut self,
-        local: &str,
-        path: &[u8],
-        bytes: &[u8],
-    ) -> Result<(), Outcome<T::NoReply>>
+    pub(crate) fn put(&mut self, local: &str, path: &[u8], bytes: &[u8]) -> Result<(), Outcome>
         requires path { length path.now ≤ MAX_PATH }
         requires fits { length bytes.now ≤ MAX_FILE }
         ensures put { OnOk result (HasPut path.now bytes.now (T.talked self.new.talk)) }
@@ -121,8 +116,8 @@ impl<'a, T: Talk, V: ProgressSink> Session<'a, T, V> {
     }
 
     /// What came of a change that was asked for and ended so, where it wasn't made.
-    fn settle_change(&mut self, end: Result<CopyEnd, NodeFault>) -> Result<(), Outcome<T::NoReply>>
-        ensures ended { ComesTo (change_end end) result }
+    fn settle_change(&mut self, end: Result<CopyEnd, NodeFault>) -> Result<(), Outcome>
+        ensures ended { ComesTo (T.missing self.old.talk) (change_end end) result }
         ensures done { OnOk result (end ≡ Ok CopyEnd.Done) }
         ensures missed { IfErr result (λ outcome. is_well outcome ≡ false) }
         ensures still { OnOk result (self.new.talk ≡ self.old.talk) }
@@ -136,7 +131,7 @@ impl<'a, T: Talk, V: ProgressSink> Session<'a, T, V> {
     /// # Errors
     /// What came of it otherwise: it is `Unknown` whether that was done where the command got no
     /// reply.
-    pub fn delete(&mut self, path: &[u8]) -> Result<(), Outcome<T::NoReply>>
+    pub fn delete(&mut self, path: &[u8]) -> Result<(), Outcome>
         requires { length path.now ≤ MAX_PATH }
         // Where it is done, the last that was sent is the DELETE of this path, and the last that
         // was received says that it was done.
@@ -154,7 +149,7 @@ impl<'a, T: Talk, V: ProgressSink> Session<'a, T, V> {
     /// # Errors
     /// What came of it otherwise: it is `Unknown` whether that was done where the command got no
     /// reply.
-    pub fn rename(&mut self, old: &[u8], new: &[u8]) -> Result<(), Outcome<T::NoReply>>
+    pub fn rename(&mut self, old: &[u8], new: &[u8]) -> Result<(), Outcome>
         requires old { length old.now ≤ MAX_PATH }
         requires new { length new.now ≤ MAX_PATH }
         // Where it is done, the last that was sent is the RENAME of these paths, and the last that

@@ -11,14 +11,11 @@ use file_copy::{CopyEnd, Talk};
 ///
 /// # Errors
 /// What came of the file otherwise.
-pub fn settle<T: Talk>(
-    talk: &mut T,
-    end: Result<CopyEnd, NodeFault>,
-) -> Result<(), Outcome<T::NoReply>>
+pub fn settle<T: Talk>(talk: &mut T, end: Result<CopyEnd, NodeFault>) -> Result<(), Outcome>
     // A copy that is done was well. A reply that refuses or answers nothing, a missing reply, an
     // end that isn't known, and a fault each come to the outcome of that name, with the reply, with
-    // the reason that the talk gives, or with the fault.
-    ensures ended { ComesTo end result }
+    // why no reply came as the talk knows it, or with the fault.
+    ensures ended { ComesTo (T.missing talk.old) end result }
     // It is well only where the copy is done.
     ensures done { OnOk result (end ≡ Ok CopyEnd.Done) }
     // Otherwise what came of it is no success.
@@ -30,7 +27,7 @@ pub fn settle<T: Talk>(
         Ok(CopyEnd::Done) => Ok(()),
         Ok(CopyEnd::Refused(reply)) => Err(Outcome::Refused(reply)),
         Ok(CopyEnd::Strange(reply)) => Err(Outcome::Strange(reply)),
-        Ok(CopyEnd::NoReply) => Err(Outcome::Unanswered(talk.no_reply())),
+        Ok(CopyEnd::Unanswered) => Err(Outcome::Unanswered(talk.no_reply())),
         Ok(CopyEnd::Unknown) => Err(Outcome::Unknown(talk.no_reply())),
         Err(fault) => Err(Outcome::Failed(fault)),
     }
@@ -41,7 +38,7 @@ pub(crate) fn change_end(end: Result<CopyEnd, NodeFault>) -> Result<CopyEnd, Nod
     ensures { result ≡ change_end end }
 {
     match end {
-        Ok(CopyEnd::NoReply) => Ok(CopyEnd::Unknown),
+        Ok(CopyEnd::Unanswered) => Ok(CopyEnd::Unknown),
         end => end,
     }
 }

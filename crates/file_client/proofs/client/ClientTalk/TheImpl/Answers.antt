@@ -9,7 +9,7 @@ use Rattle.file_client.proofs.Telling.{says_sent_at, says_received_at, says_turn
 use Rattle.file_client.proofs.client.ClientTalk.TheImpl.Goals as goal
 
 pub send-tells : goal.send-tells
-send-tells g i c = record {
+send-tells g c = record {
   sent = record {
     goes = λ first talk h. (
       ap g.D.Driver.time c.ensures.same.0 ∙ h.0,
@@ -25,7 +25,7 @@ send-tells g i c = record {
 }
 
 pub receive-tells : goal.receive-tells
-receive-tells g i c = record {
+receive-tells g c = record {
   received = record {
     goes = λ first talk h. (
       ap g.D.Driver.time c.ensures.same.0 ∙ h.0,
@@ -41,7 +41,7 @@ receive-tells g i c = record {
 }
 
 pub turn-tells : goal.turn-tells
-turn-tells g i c = record {
+turn-tells g c = record {
   silent = record {
     goes = λ first talk h. (
       c.ensures.same_driver.1 ∙ h.0,
@@ -63,7 +63,7 @@ turn-tells g i c = record {
 }
 
 pub connect-tells : goal.connect-tells
-connect-tells g i c = record {
+connect-tells g c = record {
   unfailed = c.ensures.unfailed;
   patient = ap (λ time. millis_waited (g.D.Driver.pace time).patience) c.ensures.same_driver.1;
   faults = subst (λ time. IfErr c.result (IsTurnFault (g.D.Driver.stops time) (g.D.Driver.failures c.new.self.now.driver)))
@@ -71,4 +71,4 @@ connect-tells g i c = record {
 }
 
 pub end-tells : goal.end-tells
-end-tells g i c = ap (λ time. millis_waited (g.D.Driver.pace time).patience) c.ensures.same_driver.1
+end-tells g c = ap (λ time. millis_waited (g.D.Driver.pace time).patience) c.ensures.same_driver.1
