@@ -8,7 +8,7 @@ use Rattle.file_copy.specs.Ends.{IfDone}
 use Rattle.file_transfer.specs.declared.outcome.Outcome.{Outcome}
 use Rattle.file_transfer.specs.declared.outcome.Outcome.TheVariants as o
 use Rattle.file_transfer.specs.declared.outcome.Contents.{Contents}
-use Rattle.file_transfer.specs.Outcome.{is_well, IfChanged, MatchCopied}
+use Rattle.file_transfer.specs.Outcome.{is_well, MatchCopied}
 
 -- what follows from what holds of a file that was copied
 pub done_then : (end : Result CopyEnd NodeFault) (P Q : Type 0) → (P → Q) → IfDone end P → IfDone end Q
@@ -19,40 +19,11 @@ done_then (Ok e.Unanswered) P Q f p = tt
 done_then (Ok e.Unknown) P Q f p = tt
 done_then (Err fault) P Q f p = tt
 
--- what wasn't done was no change
-pub not_changed : (outcome : Outcome) (P : Type 0) → is_well outcome ≡ false → IfChanged outcome P
-not_changed (o.Copied contents) P h = tt
-not_changed o.Changed P h = absurd (cc)
-not_changed (o.Garbled lost) P h = tt
-not_changed o.TooBig P h = tt
-not_changed o.TooLong P h = tt
-not_changed o.Unnamed P h = tt
-not_changed (o.Unread fault) P h = tt
-not_changed (o.Unwritten fault) P h = tt
-not_changed (o.Failed fault) P h = tt
-not_changed (o.Refused reply) P h = tt
-not_changed (o.Strange reply) P h = tt
-not_changed (o.Unanswered why) P h = tt
-not_changed (o.Unknown why) P h = tt
-not_changed o.NotTried P h = tt
-
 -- what wasn't done was no copy
 not_copied : (outcome : Outcome) (P : Contents → Type 0) (Q : Type 0) → is_well outcome ≡ false → Q
     → MatchCopied outcome P Q
 not_copied (o.Copied contents) P Q h q = absurd (cc)
-not_copied o.Changed P Q h q = q
-not_copied (o.Garbled lost) P Q h q = q
-not_copied o.TooBig P Q h q = q
-not_copied o.TooLong P Q h q = q
-not_copied o.Unnamed P Q h q = q
-not_copied (o.Unread fault) P Q h q = q
-not_copied (o.Unwritten fault) P Q h q = q
-not_copied (o.Failed fault) P Q h q = q
-not_copied (o.Refused reply) P Q h q = q
-not_copied (o.Strange reply) P Q h q = q
-not_copied (o.Unanswered why) P Q h q = q
-not_copied (o.Unknown why) P Q h q = q
-not_copied o.NotTried P Q h q = q
+not_copied _ P Q h q = q
 
 -- what came of a try that copied the file, or else missed it
 pub of_tried : (tried : Result Contents Outcome) (outcome : Outcome) (P R : Contents → Type 0)

@@ -43,18 +43,7 @@ severity_of NotTried = s.Refused
 abbrev pub is_well : Outcome → Bool
 is_well (Copied contents) = true
 is_well Changed = true
-is_well (Garbled lost) = false
-is_well TooBig = false
-is_well TooLong = false
-is_well Unnamed = false
-is_well (Unread fault) = false
-is_well (Unwritten fault) = false
-is_well (Failed fault) = false
-is_well (Refused reply) = false
-is_well (Strange reply) = false
-is_well (Unanswered why) = false
-is_well (Unknown why) = false
-is_well NotTried = false
+is_well _ = false
 
 -- whether the next file is tried: not after a fault of the run, nor where the connection may be bad
 abbrev pub goes_on : Outcome → Bool
@@ -76,33 +65,9 @@ goes_on NotTried = false
 -- P of a file that was copied, and Q of another
 abbrev pub MatchCopied : Outcome → (Contents → Type 0) → Type 0 → Type 0
 MatchCopied (Copied contents) P Q = P contents
-MatchCopied Changed P Q = Q
-MatchCopied (Garbled lost) P Q = Q
-MatchCopied TooBig P Q = Q
-MatchCopied TooLong P Q = Q
-MatchCopied Unnamed P Q = Q
-MatchCopied (Unread fault) P Q = Q
-MatchCopied (Unwritten fault) P Q = Q
-MatchCopied (Failed fault) P Q = Q
-MatchCopied (Refused reply) P Q = Q
-MatchCopied (Strange reply) P Q = Q
-MatchCopied (Unanswered why) P Q = Q
-MatchCopied (Unknown why) P Q = Q
-MatchCopied NotTried P Q = Q
+MatchCopied _ P Q = Q
 
 -- P where a file was changed
 abbrev pub IfChanged : Outcome → Type 0 → Type 0
-IfChanged (Copied contents) P = Unit {0}
 IfChanged Changed P = P
-IfChanged (Garbled lost) P = Unit {0}
-IfChanged TooBig P = Unit {0}
-IfChanged TooLong P = Unit {0}
-IfChanged Unnamed P = Unit {0}
-IfChanged (Unread fault) P = Unit {0}
-IfChanged (Unwritten fault) P = Unit {0}
-IfChanged (Failed fault) P = Unit {0}
-IfChanged (Refused reply) P = Unit {0}
-IfChanged (Strange reply) P = Unit {0}
-IfChanged (Unanswered why) P = Unit {0}
-IfChanged (Unknown why) P = Unit {0}
-IfChanged NotTried P = Unit {0}
+IfChanged _ P = Unit {0}
