@@ -7,7 +7,7 @@ use Rattle.file_copy.specs.Text.{byte_in}
 use Rattle.file_copy.specs.Copy.{get_commands, get_replies, put_commands, put_replies}
 use Rattle.file_copy.specs.Row.{file_handle}
 use Rattle.file_copy.specs.Talk.{History}
-use Rattle.file_copy.specs.Ends.{tids_from, delete_command, delete_reply, rename_command, rename_reply}
+use Rattle.file_copy.specs.Ends.{tids_from, login_command, login_reply, delete_command, delete_reply, rename_command, rename_reply}
 use Rattle.file_transfer.specs.declared.outcome.Contents.{Contents}
 
 -- ---- local files
@@ -29,6 +29,16 @@ bytes_in set true bytes = map (byte_in set) bytes
 bytes_in set false bytes = bytes
 
 -- ---- what was sent last
+
+-- The last that was sent and received is the LOGIN of this user, and that it was done.
+abbrev pub HasLoggedIn : {T : Type 0} → List ℕ → History T → Type 0
+HasLoggedIn {T} name now =
+    (start : T) × now start (record { sent = login_command name ∷ []; received = login_reply name ∷ [] })
+
+-- A user who is logged in already sends nothing; any other has logged in.
+abbrev pub Enters : {T : Type 0} → Bool → List ℕ → History T → T → T → Type 0
+Enters true name now old new = new ≡ old
+Enters false name now old new = HasLoggedIn name now
 
 -- The last that was sent and received is all that gets this file, with the replies of a server that has these bytes.
 abbrev pub HasGot : {T : Type 0} → List ℕ → List ℕ → History T → Type 0

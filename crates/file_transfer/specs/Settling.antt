@@ -1,5 +1,5 @@
 -- What came of a file, by how its copy ended.
-use Rattle.std.specs.Prelude.{◌≡◌, Ok, Err, Result, MatchResult}
+use Rattle.std.specs.Prelude.{◌≡◌, Bool, true, false, Ok, Err, Result, MatchResult}
 use Rattle.chaos_node.specs.declared.fault.NodeFault.{NodeFault}
 use Rattle.file_copy.specs.declared.end.CopyEnd.{CopyEnd}
 use Rattle.file_copy.specs.declared.end.CopyEnd.TheVariants as e
@@ -29,3 +29,21 @@ change_end (Ok (e.Strange reply)) = Ok (e.Strange reply)
 change_end (Ok e.Unanswered) = Ok e.Unknown
 change_end (Ok e.Unknown) = Ok e.Unknown
 change_end (Err fault) = Err fault
+
+-- the file was copied, so that every reply was received
+abbrev pub is_done : Result CopyEnd NodeFault → Bool
+is_done (Ok e.Done) = true
+is_done (Ok (e.Refused reply)) = false
+is_done (Ok (e.Strange reply)) = false
+is_done (Ok e.Unanswered) = false
+is_done (Ok e.Unknown) = false
+is_done (Err fault) = false
+
+-- the change got its reply: it was made, or the server refused it
+abbrev pub is_replied : Result CopyEnd NodeFault → Bool
+is_replied (Ok e.Done) = true
+is_replied (Ok (e.Refused reply)) = true
+is_replied (Ok (e.Strange reply)) = false
+is_replied (Ok e.Unanswered) = false
+is_replied (Ok e.Unknown) = false
+is_replied (Err fault) = false

@@ -1,14 +1,14 @@
 //! A user who copies files over one connection after another.
-ghost use Rattle.std.specs.Prelude.{◌≡◌, ◌≤◌, [], false, length, IfErr, OnOk, Ok};
+ghost use Rattle.std.specs.Prelude.{◌≡◌, ◌≤◌, [], false, true, length, IfErr, OnErr, OnOk, Ok};
 ghost use Rattle.chaos_file.specs.declared.limits.TheConstants.{MAX_FILE, MAX_NAME, MAX_PATH};
 ghost use Rattle.file_copy.specs.Ends.{IfDone};
-ghost use Rattle.file_transfer.specs.Copied.{HasDeleted, HasGot, HasPut, HasRenamed};
-ghost use Rattle.file_transfer.specs.Settling.{ComesTo, change_end};
+ghost use Rattle.file_transfer.specs.Copied.{Enters, HasDeleted, HasGot, HasPut, HasRenamed};
+ghost use Rattle.file_transfer.specs.Settling.{ComesTo, change_end, is_done, is_replied};
 ghost use Rattle.file_transfer.specs.Outcome.{is_well};
 
 use crate::outcome::Outcome;
 use crate::progress_sink::ProgressSink;
-use crate::settling::{change_end, settle};
+use crate::settling::{change_end, is_done, is_replied, settle};
 use chaos_node::NodeFault;
 use file_copy::{CopyEnd, Talk, delete_file, get_file, log_in, put_file, rename_file};
 
@@ -47,7 +47,13 @@ impl<'a, T: Talk, V: ProgressSink> Session<'a, T, V> {
     }
 
     /// Asks for a connection and logs in, where that isn't done.
-    fn begin(&mut self) -> Result<CopyEnd, NodeFault> {
+    fn begin(&mut self) -> Result<CopyEnd, NodeFault>
+        ensures entered { IfDone result
+            (Enters self.old.is_in self.old.login.now (T.talked self.new.talk) self.old.talk
+            self.new.talk) }
+        ensures within { self.old.is_in ≡ true → result ≡ Ok CopyEnd.Done }
+        ensures same { self.new.is_in ≡ self.old.is_in }
+    {
         if self.is_in {
             return Ok(CopyEnd::Done);
         }
@@ -57,7 +63,12 @@ impl<'a, T: Talk, V: ProgressSink> Session<'a, T, V> {
 
     /// Makes sure that there is a connection and that the user has logged in.
     fn enter(&mut self) -> Result<(), Outcome>
-        ensures { IfErr result (λ outcome. is_well outcome ≡ false) }
+        // The last that was sent is the LOGIN of this user, unless the user was logged in already.
+        ensures entered { OnOk result
+            (Enters self.old.is_in self.old.login.now (T.talked self.new.talk) self.old.talk
+            self.new.talk) }
+        ensures missed { IfErr result (λ outcome. is_well outcome ≡ false) }
+        ensures outside { OnErr result (self.new.is_in ≡ false) }
     {
         let end = self.begin();
         settle(&mut self.talk, end)
@@ -67,12 +78,14 @@ impl<'a, T: Talk, V: ProgressSink> Session<'a, T, V> {
     fn get_on(&mut self, path: &[u8], bytes: &mut Vec<u8>) -> Result<CopyEnd, NodeFault>
         requires path { length path.now ≤ MAX_PATH }
         requires empty { bytes.old.items ≡ [] }
-        ensures { IfDone result
+        ensures got { IfDone result
             (HasGot path.now bytes.new.items (T.talked self.new.talk)) }
+        // The next file goes over this connection only where every reply was received.
+        ensures stays { self.new.is_in ≡ is_done result }
     {
         let end = get_file(&mut self.talk, FIRST, path, bytes, &mut self.progress);
         self.progress.end();
-        self.is_in = matches!(end, Ok(CopyEnd::Done));
+        self.is_in = is_done(&end);
         end
     }
 
@@ -83,6 +96,8 @@ impl<'a, T: Talk, V: ProgressSink> Session<'a, T, V> {
         ensures got { OnOk result
             (HasGot path.now bytes.new.items (T.talked self.new.talk)) }
         ensures missed { IfErr result (λ outcome. is_well outcome ≡ false) }
+        // After a file that wasn't got a new connection is asked for.
+        ensures outside { OnErr result (self.new.is_in ≡ false) }
     {
         self.enter()?;
         self.progress.begin(path, self.talk.moment());
@@ -94,11 +109,12 @@ impl<'a, T: Talk, V: ProgressSink> Session<'a, T, V> {
     fn put_on(&mut self, path: &[u8], bytes: &[u8]) -> Result<CopyEnd, NodeFault>
         requires path { length path.now ≤ MAX_PATH }
         requires fits { length bytes.now ≤ MAX_FILE }
-        ensures { IfDone result (HasPut path.now bytes.now (T.talked self.new.talk)) }
+        ensures put { IfDone result (HasPut path.now bytes.now (T.talked self.new.talk)) }
+        ensures stays { self.new.is_in ≡ is_done result }
     {
         let end = put_file(&mut self.talk, FIRST, path, bytes, &mut self.progress);
         self.progress.end();
-        self.is_in = matches!(end, Ok(CopyEnd::Done));
+        self.is_in = is_done(&end);
         end
     }
 
@@ -108,6 +124,7 @@ impl<'a, T: Talk, V: ProgressSink> Session<'a, T, V> {
         requires fits { length bytes.now ≤ MAX_FILE }
         ensures put { OnOk result (HasPut path.now bytes.now (T.talked self.new.talk)) }
         ensures missed { IfErr result (λ outcome. is_well outcome ≡ false) }
+        ensures outside { OnErr result (self.new.is_in ≡ false) }
     {
         self.enter()?;
         self.progress.begin(local, self.talk.moment());
@@ -121,8 +138,10 @@ impl<'a, T: Talk, V: ProgressSink> Session<'a, T, V> {
         ensures done { OnOk result (end ≡ Ok CopyEnd.Done) }
         ensures missed { IfErr result (λ outcome. is_well outcome ≡ false) }
         ensures still { OnOk result (self.new.talk ≡ self.old.talk) }
+        // A refusal is the reply to the change, so that no other reply is on its way.
+        ensures stays { self.new.is_in ≡ is_replied end }
     {
-        self.is_in = matches!(end, Ok(CopyEnd::Done | CopyEnd::Refused(_)));
+        self.is_in = is_replied(&end);
         settle(&mut self.talk, change_end(end))
     }
 

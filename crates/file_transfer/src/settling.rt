@@ -1,6 +1,6 @@
 //! What came of a file, by how its copy ended.
 ghost use Rattle.std.specs.Prelude.{◌≡◌, false, IfErr, OnOk, Ok};
-ghost use Rattle.file_transfer.specs.Settling.{ComesTo, change_end};
+ghost use Rattle.file_transfer.specs.Settling.{ComesTo, change_end, is_done, is_replied};
 ghost use Rattle.file_transfer.specs.Outcome.{is_well};
 
 use crate::outcome::Outcome;
@@ -41,4 +41,18 @@ pub(crate) fn change_end(end: Result<CopyEnd, NodeFault>) -> Result<CopyEnd, Nod
         Ok(CopyEnd::Unanswered) => Ok(CopyEnd::Unknown),
         end => end,
     }
+}
+
+/// Whether a file was copied, so that every reply was received.
+pub(crate) fn is_done(end: &Result<CopyEnd, NodeFault>) -> bool
+    ensures { result ≡ is_done end.now }
+{
+    matches!(end, Ok(CopyEnd::Done))
+}
+
+/// Whether a change got its reply: it was made, or the server refused it.
+pub(crate) fn is_replied(end: &Result<CopyEnd, NodeFault>) -> bool
+    ensures { result ≡ is_replied end.now }
+{
+    matches!(end, Ok(CopyEnd::Done | CopyEnd::Refused(_)))
 }
