@@ -203,7 +203,6 @@ impl SlotSession {
         if self.id != Some(id) {
             self.begin(id, at.moment);
         }
-        self.may_hold = true;
         let session = &mut *self.session;
         let (served, made) = serve_and_report(at, host, id, session, store, out);
         match served {
