@@ -111,7 +111,7 @@ LIBRARIES = {
             "1 connection and 254 free slots",
             "turn: turn of 1 connection and 254 free slots",
             1.3,
-            why="A turn makes four passes over the slots, and the plain version three.",
+            why="A turn makes three walks over the slots in use, and the plain version three over all slots.",
         ),
         Row("255 connections", "turn: turn of 255 connections", 1.3, why="A walk goes over 224 bytes of each connection."),
     ],

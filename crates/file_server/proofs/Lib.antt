@@ -8,3 +8,4 @@ pub mod InTurn
 pub mod Idle
 pub mod LoggedRun
 pub mod Free
+pub mod Given

@@ -1,5 +1,5 @@
 -- The sessions of a host's slots.
-use Rattle.std.specs.Prelude.{ℕ, ◌==◌, Bool, true, false, if◌then◌else◌, List, [], Option, Some, None, slice_index_or}
+use Rattle.std.specs.Prelude.{◌≡◌, ℕ, ◌==◌, Bool, true, false, if◌then◌else◌, List, [], Option, Some, None, slice_index_or}
 use Rattle.chaos_file.specs.Session.{SessionView, new_session}
 use Rattle.chaos_file.specs.declared.served.Served.{Served}
 use Rattle.chaos_file.specs.declared.served.Served.TheVariants as told
@@ -35,6 +35,10 @@ eof_after eof _ = eof
 -- its open files are given back, and the user's name stays
 abbrev pub without_files : Serving → Serving
 without_files serving = record serving { session = record serving.session { handles = [] } }
+
+-- No files are open.
+abbrev pub HasNoFiles : Serving → Type 0
+HasNoFiles serving = without_files serving ≡ serving
 
 -- the session of a slot
 abbrev pub serving_at : List Serving → ℕ → Serving

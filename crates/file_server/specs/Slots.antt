@@ -60,6 +60,11 @@ EndsNothing silence now sessions h zero = Unit {0}
 EndsNothing silence now sessions h (suc n) =
     EndsNothing silence now sessions h n × EndsNothingAt silence now sessions h n
 
+-- a session after the look whether its slot has a connection
+abbrev pub given_back_in : Option ℕ → Serving → Serving
+given_back_in None serving = without_files serving
+given_back_in (Some id) serving = serving
+
 -- the files of a slot without a connection are given back
 abbrev pub given_back_at : Option ℕ → ℕ → List Serving → List Serving
 given_back_at None place sessions = slice_set sessions place (without_files (serving_at sessions place))

@@ -40,6 +40,9 @@ pub fn serve_slots<S: Store, L: Link, G: Log>(
             continue 'slots;
         }
         sent = serve_slot(turn, &mut sessions.kept[place], id, store, alloc, log) || sent;
+        if sessions.kept[place].may_hold_files() {
+            sessions.files_below = sessions.files_below.max(place + 1);
+        }
     }
     sent
 }

@@ -1,12 +1,12 @@
 //! A session for each slot of a host.
-ghost use Rattle.std.specs.Prelude.{◌≡◌, ◌<◌, ◌≤◌, [], IfOk, false, length, option_map, replicate};
+ghost use Rattle.std.specs.Prelude.{◌≡◌, ◌<◌, ◌≤◌, ℕ, [], IfOk, false, length, option_map, replicate};
 ghost use Rattle.chaos_packet.specs.Outbox.{room_of};
 ghost use Rattle.chaos_host.specs.View.{id_at};
 ghost use Rattle.chaos_file.specs.Store.{change};
 ghost use Rattle.file_server.specs.Logged.{report_use};
 ghost use Rattle.file_server.specs.Serve.{SessionServesBy, SlotDoes};
-ghost use Rattle.file_server.specs.Sessions.{Serving, first_serving, new_serving, serving_at, serving_of, without_files};
-ghost use Rattle.file_server.specs.Slots.{given_back, given_back_at};
+ghost use Rattle.file_server.specs.Sessions.{HasNoFiles, Serving, first_serving, new_serving, serving_at, serving_of, without_files};
+ghost use Rattle.file_server.specs.Slots.{given_back, given_back_in};
 
 use chaos_file::{Change, ServeAt, Served, Session, Store, serve_and_report};
 use chaos_host::{ConnId, Host};
@@ -48,6 +48,10 @@ impl Model for SlotSession {
 #[derive(Drop)]
 pub struct Sessions {
     pub(crate) kept: Vec<SlotSession>,
+    /// The sessions from this place on have no files open.
+    pub(crate) files_below: usize,
+    ghost within: { files_below ≤ length kept.items },
+    ghost bare: { (place : ℕ) → files_below ≤ place → HasNoFiles (serving_at kept.items place) },
 }
 
 impl Model for Sessions {
@@ -73,7 +77,10 @@ impl Sessions {
         for i in 0..conns {
             kept.push(SlotSession::new(alloc)?)?;
         }
-        Ok(Sessions { kept })
+        Ok(Sessions {
+            kept,
+            files_below: 0,
+        })
     }
 
     /// The number of slots, for each of which there is a session.
@@ -125,25 +132,19 @@ impl Sessions {
     }
 
     /// Gives the files of each slot back that has no connection any more. The name of its user and
-    /// its counts stay for the log of its end.
+    /// its counts stay for the log of its end. In most turns no file is open, and nothing is looked
+    /// at.
     pub(crate) fn give_back(&mut self, host: &Host)
         requires { length self.old ≡ length host.now.slots }
         ensures { self.new ≡ given_back host.now (length host.now.slots) self.old }
     {
-        for place in 0..host.conns() {
-            self.give_back_at(host, place);
+        let mut below = 0;
+        for place in 0..self.files_below {
+            if self.kept[place].give_back(host, place) {
+                below = place + 1;
+            }
         }
-    }
-
-    /// Gives the files of a slot back, where it has no connection.
-    fn give_back_at(&mut self, host: &Host, place: usize)
-        requires { place < length self.old }
-        ensures { self.new ≡ given_back_at (id_at host.now place) place self.old }
-    {
-        let kept = &mut self.kept[place];
-        if kept.may_hold_files() && host.id_of(place).is_none() {
-            kept.drop_files();
-        }
+        self.files_below = below;
     }
 
     /// How many commands of the connection in a slot were replied to. If the slot is free, the
@@ -214,9 +215,21 @@ impl SlotSession {
         made
     }
 
+    /// Gives its files back, where its slot has no connection. Says whether it may have files open
+    /// still.
+    fn give_back(&mut self, host: &Host, place: usize) -> bool
+        ensures given { self.new ≡ given_back_in (id_at host.now place) self.old }
+        ensures holds { result ≡ false → HasNoFiles self.new }
+    {
+        if self.may_hold && host.id_of(place).is_none() {
+            self.drop_files();
+        }
+        self.may_hold_files()
+    }
+
     /// Whether its session may have files open.
-    fn may_hold_files(&self) -> bool
-        ensures { result ≡ false → without_files self.now ≡ self.now }
+    pub(crate) fn may_hold_files(&self) -> bool
+        ensures { result ≡ false → HasNoFiles self.now }
     {
         self.may_hold
     }

@@ -49,8 +49,9 @@ use std::alloc::Global;
 /// the turn ends by `Worked` where a datagram came or a packet was sent, and by `Idle` where not.
 ///
 /// The sessions are as many as the host's slots, and the outbox has room for [`TURN_ROOM`] packets
-/// at least. A turn walks over the slots in use three times, twice more where a connection may end, and
-/// over all slots once; an RFC once more. No memory is taken but by [`chaos_file::Session::apply`].
+/// at least. A turn walks over the slots in use three times, and twice more where a connection may
+/// end. It looks for files to give back as far as the last slot whose session may have any open. An
+/// RFC walks over all slots. No memory is taken but by [`chaos_file::Session::apply`].
 pub fn run_turn<S: Store, L: Link>(
     alloc: Global,
     host: &mut Host,
