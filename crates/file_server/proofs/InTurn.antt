@@ -29,7 +29,7 @@ use Rattle.file_server.specs.Sessions.{Serving, new_serving, serving_at, serving
 use Rattle.file_server.specs.Slots.{end_phases}
 use Rattle.file_server.specs.Turn.{IsTurnBy}
 use Rattle.file_server.proofs.Passed.{passed_so}
-use Rattle.file_server.proofs.Relation.{slots_none, slots_so}
+use Rattle.file_server.proofs.Relation.{slots_so}
 use Rattle.file_server.proofs.Whole.{turn_so}
 
 -- the packets of what came
@@ -103,11 +103,6 @@ module _ {L S : Type 0} {G : Ghosts L} (uses : Uses S) where
       (subst
       (λ (n : ℕ). ServerDoes (Asks (G.asked b.link.now) (G.asked c.link.now)) b.carriage (does n) (server_in b xs s)
       (server_in c ys t) sent) same.4 one.0)
-
-  -- no slot was served yet
-  pub none_served : (a : Turn L G) (xs : List Serving) (s : S)
-      → ServerTurnDoes a a (ServesSlotsBy uses a.now 0) xs xs s s false
-  none_served a xs s = (slots_none uses a.carriage (server_in a xs s) a.now, (refl, refl, refl, refl, refl))
 
   -- the first slots were served, and then the next
   pub one_served : (a b c : Turn L G) (place : ℕ) (xs ys zs : List Serving) (s t u : S) (sent more all : Bool)

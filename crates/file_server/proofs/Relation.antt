@@ -1,5 +1,5 @@
 -- What serving does, told of a slot, and of slots one after the other.
-use Rattle.std.proofs.Common.{◌≡◌, ℕ, suc, Bool, true, false, if◌then◌else◌, List, [], ◌∷◌, ◌++◌, Option, Some, None, slice_set, length, refl, ap, sym, ◌∙◌, subst}
+use Rattle.std.proofs.Common.{◌≡◌, ℕ, suc, Bool, true, if◌then◌else◌, List, [], ◌∷◌, ◌++◌, Option, Some, None, slice_set, length, refl, ap, sym, ◌∙◌, subst}
 use Rattle.std.proofs.lemmas.List.{length-set}
 use Rattle.chaos_packet.specs.Packet.{PacketView}
 use Rattle.chaos_packet.specs.Outbox.{OutboxView}
@@ -22,7 +22,7 @@ use Rattle.file_server.specs.Sessions.{Serving, serving_at, serving_of}
 use Rattle.chaos_node.specs.Station.{Station, station}
 use Rattle.file_server.specs.Server.{Server, server}
 use Rattle.chaos_node.proofs.Phase.{put_into_empty}
-use Rattle.chaos_node.proofs.Queue.{lots_nothing, sends_both, has_both}
+use Rattle.chaos_node.proofs.Queue.{sends_both, has_both}
 
 module _ (answered : List ℕ → List ℕ → Type 0) (unused : Type 0) where
   by_work : (P Q : Acted Served → Type 0) (v : ConnView) (now : ℕ) (work : Work)
@@ -182,9 +182,3 @@ module _ {S : Type 0} (uses : Uses S) where
         size = two.size ∙ one.size;
         count = two.count ∙ one.count;
       }
-
-  -- no slot was served yet
-  pub slots_none : {L : Type 0} {asked : AskedSince L Ask} (carriage : Carriage) (a : Station (Server S)) (now : ℕ)
-      → ServerDoes (Asks asked asked) carriage (ServesSlotsBy uses now 0) a a false
-  slots_none carriage a now =
-      record { lots = []; done = (refl, refl); sends = lots_nothing carriage a.queue; outbox = refl; told = refl; config = refl; size = refl; count = refl }

@@ -22,7 +22,7 @@ abbrev pub host_at : {S : Type 0} → Station (Server S) → Station HostView
 host_at a = station a.node.host a.queue a.outbox
 
 -- as many sessions as before
-pub as_many_at : (found : Option ℕ) (place : ℕ) (sessions : List Serving)
+as_many_at : (found : Option ℕ) (place : ℕ) (sessions : List Serving)
     → length (given_back_at found place sessions) ≡ length sessions
 as_many_at None place sessions = length-set sessions place (without_files (serving_at sessions place))
 as_many_at (Some id) place sessions = refl

@@ -26,7 +26,7 @@ pub(crate) struct SlotSession {
     commands: u64,
     /// Whether its session may have files open: it was served since they were given back.
     pub(crate) may_hold: bool,
-    // In memory of its own: a turn walks over all slots, and looks at few of the sessions.
+    // In memory of its own: a turn walks over the slots in use, and looks at few of the sessions.
     pub(crate) session: Box<Session, Global>,
     ghost bare: { may_hold ≡ false → session.value.handles ≡ [] },
 }
