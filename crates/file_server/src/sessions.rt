@@ -24,8 +24,9 @@ pub(crate) struct SlotSession {
     since: u64,
     /// How many commands were replied to; no contract sees it.
     commands: u64,
-    /// Whether its session may have files open: it was served since they were given back.
-    pub(crate) may_hold: bool,
+    /// Whether its session may have files open: it had some when it was served last, and they were not
+    /// given back since.
+    may_hold: bool,
     // In memory of its own: a turn walks over the slots in use, and looks at few of the sessions.
     pub(crate) session: Box<Session, Global>,
     ghost bare: { may_hold ≡ false → session.value.handles ≡ [] },
