@@ -24,6 +24,7 @@ use Rattle.file_server.specs.Server.{Server, after_giving_back, server, with_hos
 use Rattle.file_server.specs.Sessions.{Serving, serving_at, serving_of}
 use Rattle.file_server.specs.Slots.{end_phases}
 use Rattle.file_server.specs.declared.limits.TheConstants.{SILENT_MILLIS}
+use Rattle.file_server.specs.declared.serve_mode.ServeMode.TheVariants.{Once}
 use Rattle.file_end_to_end.specs.Turns.{server_turns}
 use Rattle.file_end_to_end.specs.TwoClients.{contents, count, may_give}
 
@@ -161,7 +162,7 @@ place_serves s now place (Some id) is =
     slot_serves s now place (serving_of id now (serving_at s.sessions place)) (place_of id) (named_slot s.host.slots id) is
 
 slots_serve : (now n : ℕ) (s : Server Files) → AreTold now n s
-    → ServesSlots (change contents may_give count) now n s (serve_slots now n s).server (serve_slots now n s).lots
+    → ServesSlots (change contents may_give count) Once now n s (serve_slots now n s).server (serve_slots now n s).lots
 slots_serve now zero s are = (refl, refl)
 slots_serve now (suc n) s are =
     let first = serve_slots now n s in
@@ -174,6 +175,7 @@ pub server_turn : (came : Arrival) (start now : ℕ) (s : Server Files)
     (server_left came start now s).lots
 server_turn came start now s are =
     let first = serve_slots now (length s.host.slots) (with_host s (arrive_at_server came start now s.host).host) in (
+      Once,
       Some SILENT_MILLIS,
       record {
         served = first.server;

@@ -12,6 +12,7 @@ use Rattle.chaos_net.specs.System.{Hands, handed}
 use Rattle.chaos_net.proofs.Queue.{same_phases}
 use Rattle.file_server.specs.Server.{Server}
 use Rattle.file_server.specs.Turn.{IsTurn}
+use Rattle.file_server.specs.declared.serve_mode.ServeMode.{ServeMode}
 use Rattle.chaos_file.specs.Store.{StoreChange}
 use Rattle.chaos_net.specs.Turns.{TurnsAreRuns}
 use Rattle.chaos_net.proofs.ClientTurns.{client_turns_are_runs}
@@ -54,28 +55,28 @@ module _ {S : Type 0} (changes : S → S → StoreChange) (asked : List Ask → 
   )
 
   -- a datagram that carries no packet is as none
-  same_turn : (silence : Option ℕ) (others : List Addressed) (number : Option ℕ) (came : Arrival) (start now : ℕ) (s t : Server S)
-      (lots : List (List PacketView)) → Hands others number came → IsTurn changes silence came start now s t lots
-      → IsTurn changes silence (handed others number) start now s t lots
-  same_turn silence others None None start now s t lots hands turn = turn
-  same_turn silence others None (Some (Err fault)) start now s t lots hands turn = record {
+  same_turn : (mode : ServeMode) (silence : Option ℕ) (others : List Addressed) (number : Option ℕ) (came : Arrival) (start now : ℕ) (s t : Server S)
+      (lots : List (List PacketView)) → Hands others number came → IsTurn changes mode silence came start now s t lots
+      → IsTurn changes mode silence (handed others number) start now s t lots
+  same_turn mode silence others None None start now s t lots hands turn = turn
+  same_turn mode silence others None (Some (Err fault)) start now s t lots hands turn = record {
     served = turn.served;
     replies = turn.replies;
     serves = turn.serves;
     ended = turn.ended;
     out = turn.out;
   }
-  same_turn silence others None (Some (Ok packets)) start now s t lots hands turn =
-      subst (λ (o : Arrival). IsTurn changes silence o start now s t lots) hands turn
-  same_turn silence others (Some k) came start now s t lots hands turn =
-      subst (λ (o : Arrival). IsTurn changes silence o start now s t lots) hands turn
+  same_turn mode silence others None (Some (Ok packets)) start now s t lots hands turn =
+      subst (λ (o : Arrival). IsTurn changes mode silence o start now s t lots) hands turn
+  same_turn mode silence others (Some k) came start now s t lots hands turn =
+      subst (λ (o : Arrival). IsTurn changes mode silence o start now s t lots) hands turn
 
   pub server_turns_are_steps : ServerTurnsAreSteps changes asked
-  server_turns_are_steps silence waits carriage start now before after result posts others number runs is none = (
+  server_turns_are_steps mode silence waits carriage start now before after result posts others number runs is none = (
     record {
       carriage = carriage;
       lots = runs.lots;
-      turn = (silence, same_turn silence others number runs.came start now before.node after.node runs.lots is runs.turn);
+      turn = (mode, silence, same_turn mode silence others number runs.came start now before.node after.node runs.lots is runs.turn);
       read = runs.link.read;
       waiting = none;
       posts = refl;

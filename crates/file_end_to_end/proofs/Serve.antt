@@ -1,5 +1,5 @@
--- Each slot is served once: a run of as many events at most.
-use Rattle.std.proofs.Common.{◌≡◌, ℕ, zero, suc, ◌<◌, ◌≤◌, ◌==◌, true, false, List, [], ◌∷◌, ◌++◌, length, map, Option, Some, None, refl, sym, ap, ◌∙◌, subst, ⊎_elim, arith}
+-- Each slot is served, once or in a burst: a run of as many events as it was served times at most.
+use Rattle.std.proofs.Common.{◌≡◌, ℕ, zero, suc, ◌<◌, ◌≤◌, ◌==◌, true, false, List, [], ◌∷◌, ◌++◌, length, map, Option, Some, None, refl, sym, ap, ◌∙◌, subst, append_assoc, ⊎_elim, arith}
 use Rattle.std.specs.Prelude.{⊤}
 use Rattle.std.proofs.lemmas.Bool.{false≢true, cases_Bool, eq-eqb, eqb-true}
 use Rattle.std.proofs.lemmas.List.{append-nil, length-set, map-append}
@@ -19,9 +19,11 @@ use Rattle.chaos_file.specs.ServeHost.{DoesWorkInSlot}
 use Rattle.chaos_file.specs.declared.served.Served.{Served}
 use Rattle.chaos_node.specs.Phase.{Effect}
 use Rattle.chaos_net.specs.MadeTurns.{packets_sent}
-use Rattle.file_server.specs.Serve.{IsServedAt, ServesPlace, ServesSlots, SessionServes, serving_after}
+use Rattle.file_server.specs.Serve.{IsServedAt, ServesBurst, ServesMode, ServesPlace, ServesSlots, ServesTimes, SessionServes, serving_after}
 use Rattle.file_server.specs.Server.{Server}
 use Rattle.file_server.specs.Sessions.{Serving, serving_at, serving_of}
+use Rattle.file_server.specs.declared.serve_mode.ServeMode.{ServeMode}
+use Rattle.file_server.specs.declared.serve_mode.ServeMode.TheVariants.{Burst, Once}
 use Rattle.file_net.specs.History.{Way}
 use Rattle.file_net.specs.FileNet.{FileNet, FileEvent, Serves, CanHappen, file_happens}
 use Rattle.file_net.specs.Serving.{SendsMore}
@@ -119,6 +121,13 @@ module _ {S : Type 0} (contents : S → Option Files) (may_give : S → List ℕ
     at : IsAt contents t net (suc k)
     size : length t.host.slots ≡ length s.host.slots
 
+  -- The connection with this index was served, and is the slot's still.
+  record StepLed (f : FileNet) (s t : Server S) (lots : List (List PacketView)) (k id : ℕ) : Type 0 where
+    place : PlaceLed f s t lots k
+    story : Story
+    there : (place.net.net B).story (present (place.net.net B) k) ≡ Some story
+    index : id ≡ index_of (present (place.net.net B) k)
+
   nothing_led : (f : FileNet) (s t : Server S) (lots : List (List PacketView)) (k : ℕ) → IsSound m f
       → k < length s.host.slots → IsAt contents s f k → id_at s.host k ≡ None → (t ≡ s) × (lots ≡ [])
       → PlaceLed f s t lots k
@@ -168,7 +177,7 @@ module _ {S : Type 0} (contents : S → Option Files) (may_give : S → List ℕ
       → IsServedAt k s t lots (serving_after (serving_of id now (serving_at s.sessions k)) session acted.answer) acted
       → CanHappen f (Serves id now way)
       → event.Leads f (file_happens f (Serves id now way)) id acted (contents t.store) session
-      → PlaceLed f s t lots k
+      → StepLed f s t lots k id
   acted_led f s t lots k id session st way acted h within at there is done can leads =
       let g : FileNet = file_happens f (Serves id now way) in
       let station = ((reached_is_played f.net h.reached) B).station in
@@ -197,7 +206,8 @@ module _ {S : Type 0} (contents : S → Option Files) (may_give : S → List ℕ
       λ none.
       let still = steady.stories c st there in
       let isnt : None ≡ Some still.0 = sym none ∙ ap (g.net B).story name ∙ still.1 in absurd (cc) in
-      record {
+      let still = steady.stories c st there in
+      let place_led : PlaceLed f s t lots k = record {
         net = g;
         led = record {
           events = Serves id now way ∷ [];
@@ -262,6 +272,12 @@ module _ {S : Type 0} (contents : S → Option Files) (may_give : S → List ℕ
               (cases_Bool (p == k));
         };
         size = size;
+      } in
+      record {
+        place = place_led;
+        story = still.0;
+        there = ap (g.net B).story name ∙ still.1;
+        index = is ∙ ap index_of (sym name);
       }
     where
       fewer : (p k : ℕ) → p < suc k → (p ≡ k → ⊥) → p < k
@@ -271,13 +287,111 @@ module _ {S : Type 0} (contents : S → Option Files) (may_give : S → List ℕ
       fewer (suc p) (suc k) below ne =
           let rest = fewer p k (omega (arith, below)) (λ e. ne (ap suc e)) in omega (arith, rest)
 
-  some_led : (f : FileNet) (s t : Server S) (lots : List (List PacketView)) (k id : ℕ) → IsSound m f
-      → k < length s.host.slots → IsAt contents s f k → id_at s.host k ≡ Some id
+  -- the connection of a slot in use was served once
+  once_led : (f : FileNet) (s t : Server S) (lots : List (List PacketView)) (k id : ℕ) (st : Story) → IsSound m f
+      → k < length s.host.slots → IsAt contents s f k → (f.net B).story (present (f.net B) k) ≡ Some st
+      → id ≡ index_of (present (f.net B) k)
       → SessionServes (change contents may_give count s.store t.store) now id (serving_of id now (serving_at s.sessions k))
       (IsServedAt k s t lots) s.host
+      → StepLed f s t lots k id
+  once_led f s t lots k id st h within at there index one =
+      let station = ((reached_is_played f.net h.reached) B).station in
+      let inside : k < length (f.net B).host.slots =
+      subst (λ (v : HostView). k < length v.slots) (sym at.host) within in
+      let c : Name = present (f.net B) k in
+      let place : place_of id ≡ k =
+      ap place_of index ∙ place_back c (place_few (f.net B) (f.net A) station k inside) in
+      let own : named (f.net B) id ≡ c = (λ j. present (f.net B) (place j)) in
+      let serving : Serving = serving_of id now (serving_at s.sessions k) in
+      let tie : serving.session ≡ f.service.session (named (f.net B) id) =
+      ap (λ i. (serving_of i now (serving_at s.sessions k)).session) index ∙ (at.ready k within).tie now
+      ∙ ap f.service.session (sym own) in
+      let store : StoreChange = change contents may_give count s.store t.store in
+      let does : HostActed Served → Type 0 =
+      λ acted. IsServedAt k s t lots (serving_after serving one.0 acted.answer) acted in
+      let work : DoesWorkInSlot store (f.service.session (named (f.net B) id)) one.0 does (f.net B).host (place_of id) now
+      (named_slot (f.net B).host.slots id) =
+      subst
+      (λ (z : SessionView × HostView). DoesWorkInSlot store z.0 one.0 does z.1 (place_of id) now (named_slot z.1.slots id))
+      (λ j. (tie j, sym at.host j)) one.1 in
+      let e =
+      slot_serving_is_event f store one.0 id now does
+      (record { before = at.files; same = λ same. ap contents same }) work in
+      acted_led f s t lots k id one.0 st e.0 e.1 h within at there index e.2 e.3 e.4
+
+  -- the slots before this one were served
+  before_at : (s : Server S) (f : FileNet) (k : ℕ) → IsAt contents s f (suc k) → IsAt contents s f k
+  before_at s f k at = record {
+    host = at.host;
+    files = at.files;
+    count = at.count;
+    ready = at.ready;
+    kept = λ p few there. at.kept p (omega (arith, few)) there;
+  }
+
+  -- it was served once and so many times more
+  times_led : (times : ℕ) (f : FileNet) (s t : Server S) (packets : List PacketView) (k id : ℕ) (st : Story) → IsSound m f
+      → k < length s.host.slots → IsAt contents s f k → (f.net B).story (present (f.net B) k) ≡ Some st
+      → id ≡ index_of (present (f.net B) k)
+      → ServesTimes (change contents may_give count) now k id (suc times) s t packets
+      → StepLed f s t (packets ∷ []) k id
+  times_led zero f s t packets k id st h within at there index serves =
+      let last = serves.2 in
+      let all : packets ≡ last = serves.5 ∙ ap (λ (ps : List PacketView). ps ++ last) serves.3.1 in
+      subst (λ (ps : List PacketView). StepLed f s t (ps ∷ []) k id) (sym all)
+      (once_led f s t (last ∷ []) k id st h within at there index
+      (subst (λ (u : Server S). ServesPlace (change contents may_give count) now k (Some id) u t (last ∷ [])) serves.3.0 serves.4))
+  times_led (suc times) f s t packets k id st h within at there index serves =
+      let mid = serves.0 in
+      let first = serves.1 in
+      let last = serves.2 in
+      let one = times_led times f s mid first k id st h within at there index serves.3 in
+      let led = one.place.led in
+      let still = run_keeps m led.events f one.place.net led.run h in
+      let size = one.place.size in
+      let two =
+      once_led one.place.net mid t (last ∷ []) k id one.story still (omega (arith, within, size))
+      (before_at mid one.place.net k one.place.at) one.there one.index serves.4 in
+      record {
+        place = record {
+          net = two.place.net;
+          led = told_led f two.place.net (record { host = t.host; lots = first ∷ last ∷ [] }) (record { host = t.host; lots = packets ∷ [] }) refl
+              (ap (λ (ps : List PacketView). ps ++ []) serves.5 ∙ append_assoc first last [])
+              (both_led Any B f one.place.net two.place.net (record { host = mid.host; lots = first ∷ [] }) (record { host = t.host; lots = last ∷ [] }) led two.place.led);
+          at = two.place.at;
+          size = two.place.size ∙ size;
+        };
+        story = two.story;
+        there = two.there;
+        index = two.index;
+      }
+
+  burst_led : (f : FileNet) (s t : Server S) (lots : List (List PacketView)) (k id : ℕ) (st : Story) → IsSound m f
+      → k < length s.host.slots → IsAt contents s f k → (f.net B).story (present (f.net B) k) ≡ Some st
+      → id ≡ index_of (present (f.net B) k) → ServesBurst (change contents may_give count) now k id s t lots
       → PlaceLed f s t lots k
-  some_led f s t lots k id h within at is one = by ((f.net B).story (present (f.net B) k)) refl
+  burst_led f s t lots k id st h within at there index burst = by burst.times burst.some burst.serves
     where
+      by : (times : ℕ) → 1 ≤ times → ServesTimes (change contents may_give count) now k id times s t burst.packets
+          → PlaceLed f s t lots k
+      by zero none serves = absurd (omega (arith, none))
+      by (suc times) some serves =
+          subst (λ (ls : List (List PacketView)). PlaceLed f s t ls k) (sym burst.out)
+          (times_led times f s t burst.packets k id st h within at there index serves).place
+
+  -- what there is at a slot in use
+  some_led : (mode : ServeMode) (f : FileNet) (s t : Server S) (lots : List (List PacketView)) (k id : ℕ) → IsSound m f
+      → k < length s.host.slots → IsAt contents s f k → id_at s.host k ≡ Some id
+      → ServesMode (change contents may_give count) mode now k (Some id) s t lots
+      → PlaceLed f s t lots k
+  some_led mode f s t lots k id h within at is served = by ((f.net B).story (present (f.net B) k)) refl
+    where
+      in_mode : (which : ServeMode) (st : Story) → (f.net B).story (present (f.net B) k) ≡ Some st
+          → id ≡ index_of (present (f.net B) k)
+          → ServesMode (change contents may_give count) which now k (Some id) s t lots → PlaceLed f s t lots k
+      in_mode Once st there index one = (once_led f s t lots k id st h within at there index one).place
+      in_mode Burst st there index burst = burst_led f s t lots k id st h within at there index burst
+
       by : (o : Option Story) → (f.net B).story (present (f.net B) k) ≡ o → PlaceLed f s t lots k
       by None there =
           let station = ((reached_is_played f.net h.reached) B).station in
@@ -289,34 +403,16 @@ module _ {S : Type 0} (contents : S → Option Files) (may_give : S → List ℕ
           let station = ((reached_is_played f.net h.reached) B).station in
           let inside : k < length (f.net B).host.slots =
           subst (λ (v : HostView). k < length v.slots) (sym at.host) within in
-          let c : Name = present (f.net B) k in
           let used = id_used (f.net B) (f.net A) station k inside st there in
-          let index : id ≡ index_of c = some_eq (sym is ∙ ap (λ v. id_at v k) (sym at.host) ∙ used) in
-          let place : place_of id ≡ k =
-          ap place_of index ∙ place_back c (place_few (f.net B) (f.net A) station k inside) in
-          let own : named (f.net B) id ≡ c = (λ j. present (f.net B) (place j)) in
-          let serving : Serving = serving_of id now (serving_at s.sessions k) in
-          let tie : serving.session ≡ f.service.session (named (f.net B) id) =
-          ap (λ i. (serving_of i now (serving_at s.sessions k)).session) index ∙ (at.ready k within).tie now
-          ∙ ap f.service.session (sym own) in
-          let store : StoreChange = change contents may_give count s.store t.store in
-          let does : HostActed Served → Type 0 =
-          λ acted. IsServedAt k s t lots (serving_after serving one.0 acted.answer) acted in
-          let work : DoesWorkInSlot store (f.service.session (named (f.net B) id)) one.0 does (f.net B).host (place_of id) now
-          (named_slot (f.net B).host.slots id) =
-          subst
-          (λ (z : SessionView × HostView). DoesWorkInSlot store z.0 one.0 does z.1 (place_of id) now (named_slot z.1.slots id))
-          (λ j. (tie j, sym at.host j)) one.1 in
-          let e =
-          slot_serving_is_event f store one.0 id now does
-          (record { before = at.files; same = λ same. ap contents same }) work in
-          acted_led f s t lots k id one.0 st e.0 e.1 h within at there index e.2 e.3 e.4
+          let index : id ≡ index_of (present (f.net B) k) = some_eq (sym is ∙ ap (λ v. id_at v k) (sym at.host) ∙ used) in
+          in_mode mode st there index served
 
-  place_led : (f : FileNet) (s t : Server S) (lots : List (List PacketView)) (k : ℕ) (o : Option ℕ) → IsSound m f
-      → k < length s.host.slots → IsAt contents s f k → id_at s.host k ≡ o
-      → ServesPlace (change contents may_give count) now k o s t lots → PlaceLed f s t lots k
-  place_led f s t lots k None h within at is one = nothing_led f s t lots k h within at is one
-  place_led f s t lots k (Some id) h within at is one = some_led f s t lots k id h within at is one
+  place_led : (mode : ServeMode) (f : FileNet) (s t : Server S) (lots : List (List PacketView)) (k : ℕ) (o : Option ℕ)
+      → IsSound m f → k < length s.host.slots → IsAt contents s f k → id_at s.host k ≡ o
+      → ServesMode (change contents may_give count) mode now k o s t lots → PlaceLed f s t lots k
+  place_led Once f s t lots k None h within at is one = nothing_led f s t lots k h within at is one
+  place_led Burst f s t lots k None h within at is one = nothing_led f s t lots k h within at is one
+  place_led mode f s t lots k (Some id) h within at is one = some_led mode f s t lots k id h within at is one
 
   -- ---- each slot
 
@@ -326,10 +422,10 @@ module _ {S : Type 0} (contents : S → Option Files) (may_give : S → List ℕ
     pub at : IsAt contents t net k
     pub size : length t.host.slots ≡ length s.host.slots
 
-  pub slots_served : (k : ℕ) (f : FileNet) (s t : Server S) (lots : List (List PacketView)) → IsSound m f
-      → k ≤ length s.host.slots → IsAt contents s f 0 → ServesSlots (change contents may_give count) now k s t lots
+  pub slots_served : (mode : ServeMode) (k : ℕ) (f : FileNet) (s t : Server S) (lots : List (List PacketView)) → IsSound m f
+      → k ≤ length s.host.slots → IsAt contents s f 0 → ServesSlots (change contents may_give count) mode now k s t lots
       → SlotsLed f s t lots k
-  slots_served zero f s t lots h few at serves =
+  slots_served mode zero f s t lots h few at serves =
       subst (λ (u : Server S). SlotsLed f s u lots zero) (sym serves.0) (record {
         net = f;
         led = told_led f f (record { host = (f.net B).host; lots = [] }) (record { host = s.host; lots = lots }) (sym at.host)
@@ -337,15 +433,15 @@ module _ {S : Type 0} (contents : S → Option Files) (may_give : S → List ℕ
         at = at;
         size = refl;
       })
-  slots_served (suc k) f s t lots h few at serves =
+  slots_served mode (suc k) f s t lots h few at serves =
       let mid = serves.0 in
       let first = serves.1 in
       let last = serves.2 in
-      let one = slots_served k f s mid first h (omega (arith, few)) at serves.3 in
+      let one = slots_served mode k f s mid first h (omega (arith, few)) at serves.3 in
       let still = run_keeps m one.led.events f one.net one.led.run h in
       let size = one.size in
       let two =
-      place_led one.net mid t last k (id_at mid.host k) still (omega (arith, few, size)) one.at refl serves.4 in
+      place_led mode one.net mid t last k (id_at mid.host k) still (omega (arith, few, size)) one.at refl serves.4 in
       record {
         net = two.net;
         led = told_led f two.net (record { host = t.host; lots = first ++ last }) (record { host = t.host; lots = lots }) refl

@@ -14,22 +14,23 @@ use Rattle.file_server.specs.Arrive.{arrive_at_server}
 use Rattle.file_server.specs.Server.{Server, with_host}
 use Rattle.file_server.specs.Slots.{end_phases}
 use Rattle.file_server.specs.Turn.{IsTurn}
+use Rattle.file_server.specs.declared.serve_mode.ServeMode.{ServeMode}
 use Rattle.file_end_to_end.specs.Turns.{ServerTurnsAreRuns, ServerRunsAreRuns, accepts_upon}
 use Rattle.file_end_to_end.proofs.Serving.{effect, slots_served, told_so}
 use Rattle.file_end_to_end.proofs.Phases.{arrived, ended}
 
 module _ {S : Type 0} (changes : S → S → StoreChange) where
   -- from the net where its host is the server's
-  turn_made : (silence : Option ℕ) (n : Net) (x : Side) (numbers : List ℕ) (came : Arrival) (start now : ℕ) (s t : Server S)
+  turn_made : (mode : ServeMode) (silence : Option ℕ) (n : Net) (x : Side) (numbers : List ℕ) (came : Arrival) (start now : ℕ) (s t : Server S)
       (lots : List (List PacketView)) → (n x).host ≡ s.host → ComeFrom n x numbers came
-      → ComeFresh (accepts_upon start now) n x now numbers came → IsTurn changes silence came start now s t lots
+      → ComeFresh (accepts_upon start now) n x now numbers came → IsTurn changes mode silence came start now s t lots
       → Makes n x (effect t.host lots)
-  turn_made silence n x numbers came start now s t lots is from fresh turn =
+  turn_made mode silence n x numbers came start now s t lots is from fresh turn =
       let arrival = arrive_at_server came start now s.host in
       let first : Makes n x arrival =
       subst (λ h. Makes n x (arrive_at_server came start now h)) is
       (arrived n x numbers came start now from fresh) in
-      let served = slots_served changes x now (length s.host.slots) first.0 (with_host s arrival.host) turn.served
+      let served = slots_served changes x now mode (length s.host.slots) first.0 (with_host s arrival.host) turn.served
       turn.replies first.1.host turn.serves in
       let end = end_phases silence turn.served.sessions now turn.served.host in
       let last : Makes served.0 x end =
@@ -43,8 +44,8 @@ module _ {S : Type 0} (changes : S → S → StoreChange) where
 
   pub server_turns_are_runs : ServerTurnsAreRuns changes
   server_turns_are_runs n x numbers came start now s t lots is from fresh turn =
-      turn_made turn.0 n x numbers came start now s t lots is from fresh turn.1
+      turn_made turn.0 turn.1 n x numbers came start now s t lots is from fresh turn.2
 
   pub server_runs_are_runs : (asked : List Ask → Type 0) → ServerRunsAreRuns changes asked
-  server_runs_are_runs asked silence n x numbers waits carriage start now before after result is runs from fresh =
-      turn_made silence n x numbers runs.came start now before.node after.node runs.lots is from fresh runs.turn
+  server_runs_are_runs asked mode silence n x numbers waits carriage start now before after result is runs from fresh =
+      turn_made mode silence n x numbers runs.came start now before.node after.node runs.lots is from fresh runs.turn

@@ -1,4 +1,4 @@
--- Each slot is served once: the read of what is in front, and the write of its reply.
+-- Each slot is served, once or in a burst: each time the read of what is in front, and the write of its reply.
 use Rattle.std.proofs.Common.{◌≡◌, ℕ, zero, suc, Bool, true, false, List, [], ◌∷◌, ◌++◌, Option, Some, None, refl, sym, ap, ◌∙◌, subst, append_assoc, if◌then◌else◌}
 use Rattle.chaos_packet.specs.Item.{ItemView}
 use Rattle.chaos_packet.specs.Opcode.{op_data}
@@ -27,9 +27,11 @@ use Rattle.chaos_file.specs.declared.served.Served.{Served}
 use Rattle.chaos_file.specs.declared.served.Served.TheVariants as told
 use Rattle.chaos_file.proofs.ServeSlots.{finished_in, quiet_in, replied_in}
 use Rattle.chaos_node.specs.Phase.{Effect}
-use Rattle.file_server.specs.Serve.{IsServedAt, ServesPlace, ServesSlots, SessionServes, serving_after}
+use Rattle.file_server.specs.Serve.{IsServedAt, ServesMode, ServesPlace, ServesSlots, ServesTimes, SessionServes, serving_after}
 use Rattle.file_server.specs.Server.{Server}
 use Rattle.file_server.specs.Sessions.{Serving, serving_at, serving_of}
+use Rattle.file_server.specs.declared.serve_mode.ServeMode.{ServeMode}
+use Rattle.file_server.specs.declared.serve_mode.ServeMode.TheVariants.{Burst, Once}
 use Rattle.chaos_net.specs.MadeTurns.{IsMade, Makes, packets_sent}
 use Rattle.chaos_net.proofs.Made.{both_made, none_made, own_made, effect_at}
 
@@ -156,15 +158,40 @@ module _ {S : Type 0} (changes : S → S → StoreChange) (x : Side) (now : ℕ)
       in_slot_made n x (changes s.store t.store) now place id serving s t lots here.0
       (named_slot (n x).host.slots id) refl here.1
 
-  pub slots_served : (size : ℕ) (n : Net) (s t : Server S) (lots : List (List PacketView)) → (n x).host ≡ s.host
-      → ServesSlots changes now size s t lots → Makes n x (effect t.host lots)
-  slots_served zero n s t lots is serves =
-      nothing_so n x t.host lots (ap (λ (v : Server S). v.host) serves.0 ∙ sym is) (ap packets_of serves.1)
-  slots_served (suc size) n s t lots is serves =
+  -- the connection at a place was served so many times
+  times_made : (times : ℕ) (n : Net) (place id : ℕ) (s t : Server S) (packets : List PacketView) → (n x).host ≡ s.host
+      → ServesTimes changes now place id times s t packets → Makes n x (effect t.host (packets ∷ []))
+  times_made zero n place id s t packets is serves =
+      nothing_so n x t.host (packets ∷ []) (ap (λ (v : Server S). v.host) serves.0 ∙ sym is)
+      (ap (λ (ps : List PacketView). packets_of (ps ∷ [])) serves.1)
+  times_made (suc times) n place id s t packets is serves =
       let mid = serves.0 in
       let first = serves.1 in
       let last = serves.2 in
-      let one = slots_served size n s mid first is serves.3 in
-      let two = place_made one.0 size (id_at mid.host size) mid t last one.1.host serves.4 in
+      let one = times_made times n place id s mid first is serves.3 in
+      let two = place_made one.0 place (Some id) mid t (last ∷ []) one.1.host serves.4 in
+      told_so n x t.host t.host (first ∷ last ∷ []) (packets ∷ []) refl
+      (sym (append_assoc first last []) ∙ ap (λ (ps : List PacketView). ps ++ []) (sym serves.5))
+      (two.0, both_made n one.0 two.0 x (effect mid.host (first ∷ [])) (effect t.host (last ∷ [])) one.1 two.1)
+
+  -- once, or in a burst
+  mode_made : (mode : ServeMode) (n : Net) (place : ℕ) (o : Option ℕ) (s t : Server S) (lots : List (List PacketView))
+      → (n x).host ≡ s.host → ServesMode changes mode now place o s t lots → Makes n x (effect t.host lots)
+  mode_made Once n place o s t lots is one = place_made n place o s t lots is one
+  mode_made Burst n place None s t lots is one = place_made n place None s t lots is one
+  mode_made Burst n place (Some id) s t lots is one =
+      told_so n x t.host t.host (one.packets ∷ []) lots refl (ap packets_of (sym one.out))
+      (times_made one.times n place id s t one.packets is one.serves)
+
+  pub slots_served : (mode : ServeMode) (size : ℕ) (n : Net) (s t : Server S) (lots : List (List PacketView))
+      → (n x).host ≡ s.host → ServesSlots changes mode now size s t lots → Makes n x (effect t.host lots)
+  slots_served mode zero n s t lots is serves =
+      nothing_so n x t.host lots (ap (λ (v : Server S). v.host) serves.0 ∙ sym is) (ap packets_of serves.1)
+  slots_served mode (suc size) n s t lots is serves =
+      let mid = serves.0 in
+      let first = serves.1 in
+      let last = serves.2 in
+      let one = slots_served mode size n s mid first is serves.3 in
+      let two = mode_made mode one.0 size (id_at mid.host size) mid t last one.1.host serves.4 in
       told_so n x t.host t.host (first ++ last) lots refl (ap packets_of (sym serves.5))
       (two.0, both_made n one.0 two.0 x (effect mid.host first) (effect t.host last) one.1 two.1)

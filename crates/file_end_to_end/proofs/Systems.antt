@@ -122,8 +122,8 @@ module _ {S : Type 0} (contents : S → Option Files) (may_give : S → List ℕ
   server_turns s t f number start now (Serves srv) (Client h) ps qs st one far fresh server turn = absurd turn
   server_turns s t f number start now (Serves srv) (Serves left) ps qs st one far fresh server turn =
       let from = comes_from f.net B (s A).posts (s A).waiting (st.net.sent A) number in
-      let r = turn_is_run contents may_give count turn.0 m f (numbers_of (s A).posts number) (handed (s A).posts number) start now
-      srv left one.lots (reached_is_sound m f st.reached) server from fresh turn.1 in
+      let r = turn_is_run contents may_give count turn.0 turn.1 m f (numbers_of (s A).posts number) (handed (s A).posts number) start now
+      srv left one.lots (reached_is_sound m f st.reached) server from fresh turn.2 in
       let g : FileNet = r.0 in
       moved_on (LeavesClient f) s t f g B r.1.events left.host one.lots r.1.far st r.1.run r.1.server.host r.1.sent r.1.far
       (ap program_host (sym qs)) (all_posted f B (s B) (t B) (handed (s A).posts number) start now one (st.net.sent B)) far

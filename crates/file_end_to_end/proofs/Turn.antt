@@ -17,6 +17,7 @@ use Rattle.file_server.specs.Server.{Server, with_host}
 use Rattle.file_server.specs.Sessions.{Serving, serving_at}
 use Rattle.file_server.specs.Slots.{end_phases, given_back}
 use Rattle.file_server.specs.Turn.{IsTurn}
+use Rattle.file_server.specs.declared.serve_mode.ServeMode.{ServeMode}
 use Rattle.file_end_to_end.specs.Turns.{accepts_upon}
 use Rattle.file_net.specs.FileNet.{FileNet, FileEvent}
 use Rattle.file_net.proofs.Kept.{IsSound, run_keeps, reached_is_sound}
@@ -42,12 +43,12 @@ any_led P f g e led = record {
 }
 
 module _ {S : Type 0} (contents : S → Option Files) (may_give : S → List ℕ → ℕ → List ℕ → Type 0) (count : S → ℕ) where
-  pub turn_is_run : (silence : Option ℕ) (m : Files) (f : FileNet) (numbers : List ℕ) (came : Arrival) (start now : ℕ) (s t : Server S)
+  pub turn_is_run : (mode : ServeMode) (silence : Option ℕ) (m : Files) (f : FileNet) (numbers : List ℕ) (came : Arrival) (start now : ℕ) (s t : Server S)
       (lots : List (List PacketView)) → IsSound m f → IsServer contents s f → ComeFrom f.net B numbers came
       → ComeFresh (accepts_upon start now) f.net B now numbers came
-      → IsTurn (change contents may_give count) silence came start now s t lots
+      → IsTurn (change contents may_give count) mode silence came start now s t lots
       → (g : FileNet) × TurnIsRun contents f g t lots
-  turn_is_run silence m f numbers came start now s t lots h server from fresh turn =
+  turn_is_run mode silence m f numbers came start now s t lots h server from fresh turn =
       -- what came
       let arrival : Effect = arrive_at_server came start now s.host in
       let first : Leads IsArriving B f arrival =
@@ -75,7 +76,7 @@ module _ {S : Type 0} (contents : S → Option Files) (may_give : S → List ℕ
       let size = length s.host.slots in
       let served : Server S = turn.served in
       let two =
-      slots_served contents may_give count m now size f1 s1 served turn.replies h1 (omega (arith, size1)) at1 turn.serves in
+      slots_served contents may_give count m now mode size f1 s1 served turn.replies h1 (omega (arith, size1)) at1 turn.serves in
       let f2 : FileNet = two.net in
       let h2 = run_keeps m two.led.events f1 f2 two.led.run h1 in
       let size2 : length served.host.slots ≡ length s.host.slots = two.size ∙ size1 in
@@ -134,4 +135,4 @@ module _ {S : Type 0} (contents : S → Option Files) (may_give : S → List ℕ
 
   pub server_turns_are_file_runs : ServerTurnsAreFileRuns contents may_give count
   server_turns_are_file_runs m f numbers came start now s t lots reached server from fresh turn =
-      turn_is_run turn.0 m f numbers came start now s t lots (reached_is_sound m f reached) server from fresh turn.1
+      turn_is_run turn.0 turn.1 m f numbers came start now s t lots (reached_is_sound m f reached) server from fresh turn.2

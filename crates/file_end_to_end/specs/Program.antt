@@ -1,7 +1,7 @@
 -- A program at either end: a client or a server of FILE.
 --
 --    Client host     delivers what came, ticks each slot
---    Serves server   delivers what came and accepts requests for FILE, serves each slot once, frees what has ended, ticks each slot
+--    Serves server   delivers what came and accepts requests for FILE, serves each slot once or in a burst, frees what has ended, ticks each slot
 use Rattle.std.specs.Prelude.{◌≡◌, ℕ, Bool, List, [], ◌∷◌, ◌++◌, Option}
 use Rattle.chaos_file.specs.Store.{StoreChange}
 use Rattle.chaos_host.specs.View.{HostView}
@@ -18,6 +18,7 @@ use Rattle.chaos_node.specs.Turn.{RunsClientTurn, client_phases}
 use Rattle.chaos_node.specs.declared.end.TurnEnd.{TurnEnd}
 use Rattle.file_server.specs.Server.{Server}
 use Rattle.file_server.specs.Turn.{RunsTurn}
+use Rattle.file_server.specs.declared.serve_mode.ServeMode.{ServeMode}
 use Rattle.file_end_to_end.specs.Turns.{accepts_upon, server_turns}
 
 pub data Program (S : Type 0) : Type 0 where
@@ -62,9 +63,9 @@ module _ {S : Type 0} (changes : S → S → StoreChange) (asked : List Ask → 
 
   -- Each turn that a server runs is also a step.
   abbrev pub ServerTurnsAreSteps : Type 0
-  ServerTurnsAreSteps = (silence : Option ℕ) (waits : Bool) (carriage : Carriage) (start now : ℕ)
+  ServerTurnsAreSteps = (mode : ServeMode) (silence : Option ℕ) (waits : Bool) (carriage : Carriage) (start now : ℕ)
       (before after : Station (Server S)) (result : TurnEnd) (posts others : List Addressed) (number : Option ℕ)
-      → (runs : RunsTurn changes silence asked waits carriage start now before after result) → Hands others number runs.came
+      → (runs : RunsTurn changes mode silence asked waits carriage start now before after result) → Hands others number runs.came
       → after.outbox.packets ≡ []
       → TakesTurn program_host (program_turns changes) (handed others number) start now (seat_at Serves before posts)
       (seat_at Serves after (posts ++ sent_by carriage (before.outbox.packets ∷ runs.lots)))

@@ -21,6 +21,7 @@ use Rattle.chaos_net.specs.Turns.{Turns, TurnsAreRuns}
 use Rattle.file_server.specs.Arrive.{request_in}
 use Rattle.file_server.specs.Server.{Server}
 use Rattle.file_server.specs.Turn.{IsTurn, RunsTurn}
+use Rattle.file_server.specs.declared.serve_mode.ServeMode.{ServeMode}
 
 -- if the packet is a request for FILE, then the server accepts the request
 abbrev pub accepts : ℕ → ℕ → Option ℕ → List HostEvent
@@ -38,9 +39,10 @@ module _ {S : Type 0} where
   server_upon s = accepts_upon
 
 module _ {S : Type 0} (changes : S → S → StoreChange) where
-  -- for however long the server serves a peer that acknowledges nothing
+  -- in whichever mode the server serves, and for however long it serves a peer that acknowledges nothing
   abbrev pub server_turns : Turns (Server S)
-  server_turns came start now s t lots = (silence : Option ℕ) × IsTurn changes silence came start now s t lots
+  server_turns came start now s t lots =
+      (mode : ServeMode) × (silence : Option ℕ) × IsTurn changes mode silence came start now s t lots
 
   -- each turn of the server
   abbrev pub ServerTurnsAreRuns : Type 0
@@ -49,9 +51,9 @@ module _ {S : Type 0} (changes : S → S → StoreChange) where
   -- The same holds for each turn that a server runs over a link, as the contracts of `run_turn` and `Server::turn` describe
   -- the turn.
   abbrev pub ServerRunsAreRuns : (List Ask → Type 0) → Type 0
-  ServerRunsAreRuns asked = (silence : Option ℕ) (n : Net) (x : Side) (numbers : List ℕ) (waits : Bool)
+  ServerRunsAreRuns asked = (mode : ServeMode) (silence : Option ℕ) (n : Net) (x : Side) (numbers : List ℕ) (waits : Bool)
       (carriage : Carriage) (start now : ℕ) (before after : Station (Server S)) (result : TurnEnd)
       → (n x).host ≡ before.node.host
-      → (runs : RunsTurn changes silence asked waits carriage start now before after result) → ComeFrom n x numbers runs.came
+      → (runs : RunsTurn changes mode silence asked waits carriage start now before after result) → ComeFrom n x numbers runs.came
       → ComeFresh (accepts_upon start now) n x now numbers runs.came
       → Makes n x (record { host = after.node.host; lots = runs.lots })

@@ -1,5 +1,5 @@
 -- Walks over the slots in use alone: a free slot is not served, has nothing to serve, and ends nothing.
-use Rattle.std.proofs.Common.{◌≡◌, zero, suc, ℕ, ◌<◌, ◌≤◌, Bool, true, false, if◌then◌else◌, List, [], Option, arith, inl, inr, refl, ap, sym, ◌∙◌, append-nil, subst}
+use Rattle.std.proofs.Common.{◌≡◌, zero, suc, ℕ, ◌<◌, ◌≤◌, Bool, true, false, if◌then◌else◌, List, [], Option, None, arith, inl, inr, refl, ap, sym, ◌∙◌, append-nil, subst}
 use Rattle.std.proofs.lemmas.Bool.{cases_lt}
 use Rattle.chaos_packet.specs.Packet.{PacketView}
 use Rattle.chaos_host.specs.Slot.{is_used_at}
@@ -11,10 +11,12 @@ use Rattle.chaos_node.specs.Station.{Station}
 use Rattle.chaos_node.specs.declared.turn.Turn.{Turn}
 use Rattle.chaos_node.proofs.Free.{PassesFree, by_index, id_of_free}
 use Rattle.file_server.specs.InTurn.{ServerTurnDoes}
-use Rattle.file_server.specs.Serve.{ServerDoes, ServesPlaceBy, ServesSlotBy, ServesSlotsBy, Uses}
+use Rattle.file_server.specs.Serve.{ServerDoes, ServesModeBy, ServesSlotBy, ServesSlotsBy, Uses}
 use Rattle.file_server.specs.Server.{Server}
 use Rattle.file_server.specs.Sessions.{Serving, serving_at}
 use Rattle.file_server.specs.Slots.{EndsNothing, EndsNothingAt, IsIdle, close_at, close_for, release_at, release_by}
+use Rattle.file_server.specs.declared.serve_mode.ServeMode.{ServeMode}
+use Rattle.file_server.specs.declared.serve_mode.ServeMode.TheVariants.{Burst, Once}
 use Rattle.file_server.specs.Waiting.{serves_by, serves_within}
 
 -- The slots from one place to another are free.
@@ -104,28 +106,32 @@ serves_none h place before here = rw before here
 -- ---- serving
 
 module _ {S : Type 0} (uses : Uses S) where
-  serves_passed : (now m n : ℕ) (s t : Server S) (lots : List (List PacketView)) → m ≤ n → AreFree t.host m n
-      → ServesSlotsBy uses now m s t lots → ServesSlotsBy uses now n s t lots
-  serves_passed now m zero s t lots within free served =
-      let same : m ≡ 0 = omega arith in subst (λ (k : ℕ). ServesSlotsBy uses now k s t lots) same served
-  serves_passed now m (suc n) s t lots within free served =
-      elim (cases_lt n m) as (λ _. ServesSlotsBy uses now (suc n) s t lots) [
+  none_served : (mode : ServeMode) (now place : ℕ) (s : Server S) → ServesModeBy uses mode now place None s s []
+  none_served Once now place s = (refl, refl)
+  none_served Burst now place s = (refl, refl)
+
+  serves_passed : (mode : ServeMode) (now m n : ℕ) (s t : Server S) (lots : List (List PacketView)) → m ≤ n → AreFree t.host m n
+      → ServesSlotsBy uses mode now m s t lots → ServesSlotsBy uses mode now n s t lots
+  serves_passed mode now m zero s t lots within free served =
+      let same : m ≡ 0 = omega arith in subst (λ (k : ℕ). ServesSlotsBy uses mode now k s t lots) same served
+  serves_passed mode now m (suc n) s t lots within free served =
+      elim (cases_lt n m) as (λ _. ServesSlotsBy uses mode now (suc n) s t lots) [
         | inl all ↦
-            let same : m ≡ suc n = omega arith in subst (λ (k : ℕ). ServesSlotsBy uses now k s t lots) same served
+            let same : m ≡ suc n = omega arith in subst (λ (k : ℕ). ServesSlotsBy uses mode now k s t lots) same served
         | inr less ↦
             let below : n < suc n = omega arith in
             let none = sym (id_of_free t.host n (free n less below)) in
-            let passed : ServesSlotBy uses now n t t [] =
-            subst (λ (o : Option ℕ). ServesPlaceBy uses now n o t t []) none (refl, refl) in
-            (t, lots, [], serves_passed now m n s t lots less (less_free t.host m n free) served, passed, sym (append-nil lots))
+            let passed : ServesSlotBy uses mode now n t t [] =
+            subst (λ (o : Option ℕ). ServesModeBy uses mode now n o t t []) none (none_served mode now n t) in
+            (t, lots, [], serves_passed mode now m n s t lots less (less_free t.host m n free) served, passed, sym (append-nil lots))
       ]
 
-  slots_passed : (asked : List Ask → Type 0) (carriage : Carriage) (now m n : ℕ) (a b : Station (Server S)) (sent : Bool)
-      → m ≤ n → AreFree b.node.host m n → ServerDoes asked carriage (ServesSlotsBy uses now m) a b sent
-      → ServerDoes asked carriage (ServesSlotsBy uses now n) a b sent
-  slots_passed asked carriage now m n a b sent within free done = record {
+  slots_passed : (asked : List Ask → Type 0) (carriage : Carriage) (mode : ServeMode) (now m n : ℕ) (a b : Station (Server S)) (sent : Bool)
+      → m ≤ n → AreFree b.node.host m n → ServerDoes asked carriage (ServesSlotsBy uses mode now m) a b sent
+      → ServerDoes asked carriage (ServesSlotsBy uses mode now n) a b sent
+  slots_passed asked carriage mode now m n a b sent within free done = record {
     lots = done.lots;
-    done = serves_passed now m n a.node b.node done.lots within free done.done;
+    done = serves_passed mode now m n a.node b.node done.lots within free done.done;
     sends = done.sends;
     outbox = done.outbox;
     told = done.told;
@@ -135,9 +141,9 @@ module _ {S : Type 0} (uses : Uses S) where
   }
 
   -- the first slots were served, and those behind them are free
-  pub served_to : {L : Type 0} {G : Ghosts L} (a b : Turn L G) (m n : ℕ) (xs ys : List Serving) (s t : S) (sent : Bool)
+  pub served_to : {L : Type 0} {G : Ghosts L} (mode : ServeMode) (a b : Turn L G) (m n : ℕ) (xs ys : List Serving) (s t : S) (sent : Bool)
       → m ≤ n → AreFree b.host.now m n
-      → ServerTurnDoes a b (ServesSlotsBy uses a.now m) xs ys s t sent
-      → ServerTurnDoes a b (ServesSlotsBy uses a.now n) xs ys s t sent
-  served_to a b m n xs ys s t sent within free done =
-      (slots_passed _ a.carriage a.now m n _ _ sent within free done.0, done.1)
+      → ServerTurnDoes a b (ServesSlotsBy uses mode a.now m) xs ys s t sent
+      → ServerTurnDoes a b (ServesSlotsBy uses mode a.now n) xs ys s t sent
+  served_to mode a b m n xs ys s t sent within free done =
+      (slots_passed _ a.carriage mode a.now m n _ _ sent within free done.0, done.1)

@@ -28,6 +28,7 @@ use Rattle.file_server.specs.Server.{Server, after_giving_back, with_host}
 use Rattle.file_server.specs.Sessions.{Serving, new_serving, serving_at, serving_of}
 use Rattle.file_server.specs.Slots.{end_phases}
 use Rattle.file_server.specs.Turn.{IsTurnBy}
+use Rattle.file_server.specs.declared.serve_mode.ServeMode.{ServeMode}
 use Rattle.file_server.proofs.Passed.{passed_so}
 use Rattle.file_server.proofs.Relation.{slots_so}
 use Rattle.file_server.proofs.Whole.{turn_so}
@@ -105,46 +106,46 @@ module _ {L S : Type 0} {G : Ghosts L} (uses : Uses S) where
       (server_in c ys t) sent) same.4 one.0)
 
   -- the first slots were served, and then the next
-  pub one_served : (a b c : Turn L G) (place : ℕ) (xs ys zs : List Serving) (s t u : S) (sent more all : Bool)
-      → ServerTurnDoes a b (ServesSlotsBy uses a.now place) xs ys s t sent
-      → ServerTurnDoes b c (ServesSlotBy uses b.now place) ys zs t u more
+  pub one_served : (mode : ServeMode) (a b c : Turn L G) (place : ℕ) (xs ys zs : List Serving) (s t u : S) (sent more all : Bool)
+      → ServerTurnDoes a b (ServesSlotsBy uses mode a.now place) xs ys s t sent
+      → ServerTurnDoes b c (ServesSlotBy uses mode b.now place) ys zs t u more
       → all ≡ (if more then true else sent)
-      → ServerTurnDoes a c (ServesSlotsBy uses a.now (suc place)) xs zs s u all
-  one_served a b c place xs ys zs s t u sent more all one two e = (
-    slots_so uses a.carriage (server_in a xs s) (server_in b ys t) (server_in c zs u) place a.now sent more all
-        one.0 (serves_still a b c (λ (now : ℕ). ServesSlotBy uses now place) ys zs t u more one.1 two) e,
+      → ServerTurnDoes a c (ServesSlotsBy uses mode a.now (suc place)) xs zs s u all
+  one_served mode a b c place xs ys zs s t u sent more all one two e = (
+    slots_so uses a.carriage (server_in a xs s) (server_in b ys t) (server_in c zs u) mode place a.now sent more all
+        one.0 (serves_still a b c (λ (now : ℕ). ServesSlotBy uses mode now place) ys zs t u more one.1 two) e,
     same_twice a b c one.1 two.1,
   )
 
   -- the first slots were served, and the next has nothing to serve
-  pub none_to_serve : (a b : Turn L G) (place id : ℕ) (conn : ConnView) (here : Serving) (xs ys : List Serving) (s t : S)
+  pub none_to_serve : (mode : ServeMode) (a b : Turn L G) (place id : ℕ) (conn : ConnView) (here : Serving) (xs ys : List Serving) (s t : S)
       (sent : Bool)
-      → ServerTurnDoes a b (ServesSlotsBy uses a.now place) xs ys s t sent
+      → ServerTurnDoes a b (ServesSlotsBy uses mode a.now place) xs ys s t sent
       → id_at b.host.now place ≡ Some id → here ≡ serving_at ys place → serving_of id b.now here ≡ here
       → host_look b.host.now id (λ c. c) ≡ Ok conn → is_served (Some (work_of conn)) ≡ false
       → ((v : SessionView) → (uses t t b.host.now id v v).unused)
-      → ServerTurnDoes a b (ServesSlotsBy uses a.now (suc place)) xs ys s t sent
-  none_to_serve a b place id conn here xs ys s t sent done there is serves shows none same =
-      one_served a b b place xs ys ys s t t sent false sent done (
-        passed_so uses b.carriage here ys ys t place id b.now b.host.now conn b.out.now (G.queue b.link.now) there is
+      → ServerTurnDoes a b (ServesSlotsBy uses mode a.now (suc place)) xs ys s t sent
+  none_to_serve mode a b place id conn here xs ys s t sent done there is serves shows none same =
+      one_served mode a b b place xs ys ys s t t sent false sent done (
+        passed_so uses b.carriage mode here ys ys t place id b.now b.host.now conn b.out.now (G.queue b.link.now) there is
             (sym (ap (slice_set ys place) is ∙ set-get_or ys place new_serving)) serves shows none same b.empty,
         (refl, refl, refl, refl, refl),
       ) refl
 
   -- what came was taken, each slot was served, and the last phases were made; the files were given back
-  pub turn_taken : (silence : Option ℕ) (came : Arrival) (start : ℕ) (a b c d : Turn L G) (xs ys zs : List Serving)
+  pub turn_taken : (mode : ServeMode) (silence : Option ℕ) (came : Arrival) (start : ℕ) (a b c d : Turn L G) (xs ys zs : List Serving)
       (s t : S) (x y z all : Bool)
       → TurnDoes a b (arrive_at_server came start a.now a.host.now) x
-      → ServerTurnDoes b c (ServesSlotsBy uses b.now (length b.host.now.slots)) xs ys s t y
+      → ServerTurnDoes b c (ServesSlotsBy uses mode b.now (length b.host.now.slots)) xs ys s t y
       → TurnDoes c d (end_phases silence ys c.now c.host.now) z
       → (server_in d zs t).node ≡ after_giving_back (with_host (server_in c ys t).node d.host.now)
       → all ≡ (if x then true else (if y then true else z))
-      → ServerTurnDoes a d (IsTurnBy uses silence came start a.now) xs zs s t all
-  turn_taken silence came start a b c d xs ys zs s t x y z all one two three given e =
+      → ServerTurnDoes a d (IsTurnBy uses mode silence came start a.now) xs zs s t all
+  turn_taken mode silence came start a b c d xs ys zs s t x y z all one two three given e =
       let same = same_twice a b c one.1 two.1 in (
-        turn_so uses a.carriage silence came start a.now (server_in a xs s) (server_in b xs s) (server_in c ys t)
+        turn_so uses a.carriage mode silence came start a.now (server_in a xs s) (server_in b xs s) (server_in c ys t)
             (server_in d zs t) x y z all refl given one.0
-            (serves_still a b c (λ (now : ℕ). ServesSlotsBy uses now (length b.host.now.slots)) xs ys s t y one.1 two)
+            (serves_still a b c (λ (now : ℕ). ServesSlotsBy uses mode now (length b.host.now.slots)) xs ys s t y one.1 two)
             (still a c d (λ (now : ℕ). end_phases silence ys now c.host.now) z same three) e,
         same_twice a c d same three.1,
       )

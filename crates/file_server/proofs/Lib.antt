@@ -1,5 +1,6 @@
 pub mod Passed
 pub mod Relation
+pub mod Burst
 pub mod Logged
 pub mod Whole
 pub mod Calls

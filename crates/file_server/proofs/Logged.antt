@@ -1,5 +1,5 @@
 -- A log that gets what each served command changed; and the same turns without the log.
-use Rattle.std.proofs.Common.{◌≡◌, zero, suc, ℕ, Bool, List, Option, Some, None, ap, ◌∙◌}
+use Rattle.std.proofs.Common.{◌≡◌, zero, suc, ℕ, Bool, List, [], ◌∷◌, Option, Some, None, ap, ◌∙◌}
 use Rattle.chaos_packet.specs.Outbox.{OutboxView}
 use Rattle.chaos_packet.specs.Packet.{PacketView}
 use Rattle.chaos_file.specs.Session.{SessionView}
@@ -21,11 +21,13 @@ use Rattle.chaos_node.specs.Station.{Station, station}
 use Rattle.chaos_node.specs.declared.end.TurnEnd.{TurnEnd}
 use Rattle.file_server.specs.Arrive.{arrive_at_server}
 use Rattle.file_server.specs.Logged.{Logged, LogsTurn, after_arrival, logged_made, logged_use, logged_uses, report_use}
-use Rattle.file_server.specs.Serve.{IsServedAt, ServesPlace, ServesPlaceBy, ServesSlots, ServesSlotsBy, SessionServesBy, SlotDoes, serving_after}
+use Rattle.file_server.specs.Serve.{IsServedAt, ServesMode, ServesModeBy, ServesPlace, ServesPlaceBy, ServesSlots, ServesSlotsBy, ServesTimes, ServesTimesBy, SessionServesBy, SlotDoes, serving_after}
 use Rattle.file_server.specs.Server.{Server, server, with_host}
 use Rattle.file_server.specs.Sessions.{Serving, serving_at, serving_of}
 use Rattle.file_server.specs.Turn.{IsTurn, IsTurnBy, RunsTurn, RunsTurnBy}
 use Rattle.file_server.specs.Watch.{Event, peer_at}
+use Rattle.file_server.specs.declared.serve_mode.ServeMode.{ServeMode}
+use Rattle.file_server.specs.declared.serve_mode.ServeMode.TheVariants.{Burst, Once}
 use Rattle.file_server.proofs.Relation.{in_found, serves_so}
 
 -- a slot's session is left as the session that served
@@ -86,54 +88,83 @@ module _ {S : Type 0} (changes : S → S → StoreChange) where
             (λ acted is. record { host = is.host; sessions = is.sessions; out = is.out }) done.1),
       )
 
-  slots_plain : (now n : ℕ) (s t : Server (Logged S)) (lots : List (List PacketView))
-      → ServesSlotsBy (logged_uses changes) now n s t lots → ServesSlots changes now n (plain s) (plain t) lots
-  slots_plain now zero s t lots done = (ap plain done.0, done.1)
-  slots_plain now (suc n) s t lots done = (
+  times_plain : (now place id times : ℕ) (s t : Server (Logged S)) (packets : List PacketView)
+      → ServesTimesBy (logged_uses changes) now place id times s t packets
+      → ServesTimes changes now place id times (plain s) (plain t) packets
+  times_plain now place id zero s t packets done = (ap plain done.0, done.1)
+  times_plain now place id (suc times) s t packets done = (
     plain done.0,
     done.1,
     done.2,
-    slots_plain now n s done.0 done.1 done.3,
-    place_plain now n (id_at done.0.host n) done.0 t done.2 done.4,
+    times_plain now place id times s done.0 done.1 done.3,
+    place_plain now place (Some id) done.0 t (done.2 ∷ []) done.4,
     done.5,
   )
 
-  turn_plain : (silence : Option ℕ) (came : Arrival) (start now : ℕ) (s t : Server (Logged S))
+  mode_plain : (mode : ServeMode) (now place : ℕ) (found : Option ℕ) (s t : Server (Logged S))
       (lots : List (List PacketView))
-      → IsTurnBy (logged_uses changes) silence came start now s t lots
-      → IsTurn changes silence came start now (plain s) (plain t) lots
-  turn_plain silence came start now s t lots is = record {
+      → ServesModeBy (logged_uses changes) mode now place found s t lots
+      → ServesMode changes mode now place found (plain s) (plain t) lots
+  mode_plain Once now place found s t lots done = place_plain now place found s t lots done
+  mode_plain Burst now place None s t lots done = (ap plain done.0, done.1)
+  mode_plain Burst now place (Some id) s t lots done = record {
+    times = done.times;
+    packets = done.packets;
+    some = done.some;
+    few = done.few;
+    serves = times_plain now place id done.times s t done.packets done.serves;
+    ends = done.ends;
+    out = done.out;
+  }
+
+  slots_plain : (mode : ServeMode) (now n : ℕ) (s t : Server (Logged S)) (lots : List (List PacketView))
+      → ServesSlotsBy (logged_uses changes) mode now n s t lots → ServesSlots changes mode now n (plain s) (plain t) lots
+  slots_plain mode now zero s t lots done = (ap plain done.0, done.1)
+  slots_plain mode now (suc n) s t lots done = (
+    plain done.0,
+    done.1,
+    done.2,
+    slots_plain mode now n s done.0 done.1 done.3,
+    mode_plain mode now n (id_at done.0.host n) done.0 t done.2 done.4,
+    done.5,
+  )
+
+  turn_plain : (mode : ServeMode) (silence : Option ℕ) (came : Arrival) (start now : ℕ) (s t : Server (Logged S))
+      (lots : List (List PacketView))
+      → IsTurnBy (logged_uses changes) mode silence came start now s t lots
+      → IsTurn changes mode silence came start now (plain s) (plain t) lots
+  turn_plain mode silence came start now s t lots is = record {
     served = plain is.served;
     replies = is.replies;
     serves =
-        slots_plain now _ (with_host s (arrive_at_server came start now s.host).host) is.served is.replies is.serves;
+        slots_plain mode now _ (with_host s (arrive_at_server came start now s.host).host) is.served is.replies is.serves;
     ended = ap plain is.ended;
     out = is.out;
   }
 
-  pub runs_plain : (silence : Option ℕ) (asked : List Ask → Type 0) (waits : Bool) (carriage : Carriage) (start now : ℕ)
+  pub runs_plain : (mode : ServeMode) (silence : Option ℕ) (asked : List Ask → Type 0) (waits : Bool) (carriage : Carriage) (start now : ℕ)
       (before after : Station (Server (Logged S))) (result : TurnEnd)
-      → RunsTurnBy (logged_uses changes) silence asked waits carriage start now before after result
-      → RunsTurn changes silence asked waits carriage start now
+      → RunsTurnBy (logged_uses changes) mode silence asked waits carriage start now before after result
+      → RunsTurn changes mode silence asked waits carriage start now
       (station (plain before.node) before.queue before.outbox) (station (plain after.node) after.queue after.outbox)
       result
-  runs_plain silence asked waits carriage start now before after result is = record {
+  runs_plain mode silence asked waits carriage start now before after result is = record {
     came = is.came;
     lots = is.lots;
-    turn = turn_plain silence is.came start now before.node after.node is.lots is.turn;
+    turn = turn_plain mode silence is.came start now before.node after.node is.lots is.turn;
     link = record { queue = is.link.queue; asks = is.link.asks; read = is.link.read; work = is.link.work };
   }
 
-  pub logs_plain : (silence : Option ℕ) (reported : List Ask → LinkReport → Type 0) (asked : List Ask → Type 0) (waits : Bool) (carriage : Carriage) (start now : ℕ)
+  pub logs_plain : (mode : ServeMode) (silence : Option ℕ) (reported : List Ask → LinkReport → Type 0) (asked : List Ask → Type 0) (waits : Bool) (carriage : Carriage) (start now : ℕ)
       (before after : Station (Server (Logged S))) (result : TurnEnd)
-      → LogsTurn changes silence reported asked waits carriage start now before after result
-      → RunsTurn changes silence asked waits carriage start now
+      → LogsTurn changes mode silence reported asked waits carriage start now before after result
+      → RunsTurn changes mode silence asked waits carriage start now
       (station (plain before.node) before.queue before.outbox) (station (plain after.node) after.queue after.outbox)
       result
-  logs_plain silence reported asked waits carriage start now before after result is = record {
+  logs_plain mode silence reported asked waits carriage start now before after result is = record {
     came = is.came;
     lots = is.lots;
     turn =
-        turn_plain silence is.came start now (after_arrival is.came is.report before.node) after.node is.lots is.turn;
+        turn_plain mode silence is.came start now (after_arrival is.came is.report before.node) after.node is.lots is.turn;
     link = record { queue = is.link.queue; asks = is.link.asks; read = is.link.read; work = is.link.work };
   }

@@ -11,6 +11,7 @@ use Rattle.chaos_node.specs.declared.end.TurnEnd.{TurnEnd}
 use Rattle.chaos_node.specs.declared.fault.NodeFault.{NodeFault}
 use Rattle.file_server.specs.Logged.{Logged, LogsTurn}
 use Rattle.file_server.specs.LoggedRun.{LoggedService, LogsBy, LogsTurnAt, new_logged, with_log}
+use Rattle.file_server.specs.Serve.{mode_of}
 use Rattle.file_server.specs.Service.{MadeTurns}
 use Rattle.file_server.specs.Waiting.{waits}
 use Rattle.file_server.specs.Watch.{Event, logged_turned, watched, watched_slots}
@@ -25,7 +26,7 @@ module _ {S : Type 0} (changes : S → S → StoreChange) (carriage : Carriage) 
   pub logs_turn : {asked : List Ask → Type 0} (reported : List Ask → LinkReport → Type 0) (now start : ℕ) (by : Carriage) (entries : Option (List Event))
       (report : LinkReport) (before after : LoggedService S) (end : TurnEnd)
       → by ≡ carriage → start ≡ starts now
-      → LogsTurn changes (Some SILENT_MILLIS) reported asked (waits true before.station.node.host) by start now before.station
+      → LogsTurn changes (mode_of by) (Some SILENT_MILLIS) reported asked (waits true before.station.node.host) by start now before.station
       (with_log entries after.station) end
       → watched after.seen after.station.node.store.1
       ≡ watched_slots after.station.node.host after.station.node.sessions
@@ -33,11 +34,11 @@ module _ {S : Type 0} (changes : S → S → StoreChange) (carriage : Carriage) 
       → (asks : List Ask) × asked asks × LogsTurnAt changes carriage starts now asks before after
   logs_turn {asked} reported now start by entries report before after end same from done looked =
       let wait = waits true before.station.node.host in
-      let made : LogsTurn changes (Some SILENT_MILLIS) reported asked wait carriage (starts now) now before.station
+      let made : LogsTurn changes (mode_of carriage) (Some SILENT_MILLIS) reported asked wait carriage (starts now) now before.station
       (with_log entries after.station) end =
-      subst (λ (k : Carriage). LogsTurn changes (Some SILENT_MILLIS) reported asked wait k (starts now) now before.station (with_log entries after.station) end)
+      subst (λ (k : Carriage). LogsTurn changes (mode_of k) (Some SILENT_MILLIS) reported asked wait k (starts now) now before.station (with_log entries after.station) end)
       same
-      (subst (λ (n : ℕ). LogsTurn changes (Some SILENT_MILLIS) reported asked wait by n now before.station (with_log entries after.station) end)
+      (subst (λ (n : ℕ). LogsTurn changes (mode_of by) (Some SILENT_MILLIS) reported asked wait by n now before.station (with_log entries after.station) end)
       from done) in (
         turn_asks carriage wait before.station.outbox.packets made.lots,
         made.link.asks,

@@ -1,5 +1,5 @@
 -- A slot that is passed over, since its connection has nothing to serve.
-use Rattle.std.proofs.Common.{◌≡◌, ℕ, Bool, false, List, [], ◌∷◌, ◌++◌, Option, Some, None, option_map, Ok, refl, ap, sym, subst, arith, ◌∙◌, slice_set}
+use Rattle.std.proofs.Common.{◌≡◌, ℕ, Bool, false, List, [], ◌∷◌, ◌++◌, Option, Some, None, option_map, Ok, inl, refl, ap, sym, subst, arith, ◌∙◌, slice_set}
 use Rattle.std.proofs.lemmas.List.{append-nil}
 use Rattle.chaos_packet.specs.Packet.{PacketView}
 use Rattle.chaos_packet.specs.Outbox.{OutboxView}
@@ -12,7 +12,7 @@ use Rattle.chaos_host.specs.declared.slot.Slot.{Slot}
 use Rattle.chaos_link.specs.Link.{Ask, AskedSince, Asks, QueueView}
 use Rattle.chaos_link.specs.declared.carriage.Carriage.{Carriage}
 use Rattle.chaos_link.specs.declared.carriage.Carriage.TheVariants.{One, Two}
-use Rattle.chaos_file.specs.ServeCalls.{DoesWorkByCalls, is_served}
+use Rattle.chaos_file.specs.ServeCalls.{DoesWorkByCalls, can_serve, is_served}
 use Rattle.chaos_file.specs.ServeHost.{DoesWorkInSlotBy}
 use Rattle.chaos_file.specs.ServeWork.{Work, NotOpen, Nothing, Full, LastItem, Command, work_of}
 use Rattle.chaos_file.specs.declared.served.Served.{Served}
@@ -23,9 +23,12 @@ use Rattle.file_server.specs.Serve.{ServerDoes, ServesSlotBy, Uses, serving_afte
 use Rattle.file_server.specs.Sessions.{Serving, eof_after, serving_at, serving_of}
 use Rattle.chaos_node.specs.Station.{station}
 use Rattle.file_server.specs.Server.{server}
+use Rattle.file_server.specs.declared.serve_mode.ServeMode.{ServeMode}
+use Rattle.file_server.specs.declared.serve_mode.ServeMode.TheVariants.{Burst, Once}
 use Rattle.chaos_link.proofs.Asked.{asks_none}
 use Rattle.chaos_node.proofs.Queue.{sends_nothing}
-use Rattle.file_server.proofs.Relation.{kept_so, slot_so}
+use Rattle.file_server.proofs.Burst.{HasEnded, next_so, none_so, slot_so}
+use Rattle.file_server.proofs.Relation.{kept_so, placed_so}
 
 -- what serving would tell, where it serves nothing
 abbrev told_without : Work → Served
@@ -80,13 +83,19 @@ nothing_sent {L} {asked} One queue packets e =
 nothing_sent {L} {asked} Two queue packets e =
     rw e (record { sends = sends_nothing queue; asks = asks_none asked; read = refl })
 
+-- one command at most, and none in front: serving is at its end
+rested : (mode : ServeMode) (h : HostView) (id : ℕ) (packets : List PacketView) → can_serve h id ≡ false
+    → HasEnded mode h id 1 packets
+rested Once h id packets none = refl
+rested Burst h id packets none = (omega arith, omega arith, inl none)
+
 module _ {S : Type 0} (uses : Uses S) where
   -- where it has nothing to serve, and its session is there, serving its slot changes nothing
-  pub passed_so : {L : Type 0} {asked : AskedSince L Ask} (carriage : Carriage) (here : Serving) (sessions kept : List Serving) (store : S) (place id now : ℕ) (host : HostView) (conn : ConnView) (out : OutboxView) (queue : Option QueueView)
+  pub passed_so : {L : Type 0} {asked : AskedSince L Ask} (carriage : Carriage) (mode : ServeMode) (here : Serving) (sessions kept : List Serving) (store : S) (place id now : ℕ) (host : HostView) (conn : ConnView) (out : OutboxView) (queue : Option QueueView)
       → id_at host place ≡ Some id → here ≡ serving_at sessions place → kept ≡ slice_set sessions place here → serving_of id now here ≡ here → host_look host id (λ c. c) ≡ Ok conn → is_served (Some (work_of conn)) ≡ false
       → ((s : SessionView) → (uses store store host id s s).unused) → out.packets ≡ []
-      → ServerDoes (Asks asked asked) carriage (ServesSlotBy uses now place) (station (server host sessions store) queue out) (station (server host kept store) queue out) false
-  passed_so carriage here sessions kept store place id now host conn out queue e e' set serves shows none same empty =
+      → ServerDoes (Asks asked asked) carriage (ServesSlotBy uses mode now place) (station (server host sessions store) queue out) (station (server host kept store) queue out) false
+  passed_so carriage mode here sessions kept store place id now host conn out queue e e' set serves shows none same empty =
       let found = looked_at (named_slot host.slots id) conn shows in
       let slot = found.0 in
       let idle : is_served (Some (work_of slot.conn)) ≡ false = ap (λ (c : ConnView). is_served (Some (work_of c))) found.2 ∙ none in
@@ -94,6 +103,10 @@ module _ {S : Type 0} (uses : Uses S) where
       let left : here ≡ serving_after (serving_of id now here) (serving_of id now here).session answer =
       ap (λ (b : Bool). record here { eof = b }) (sym (stays (work_of slot.conn) here.eof)) ∙ ap (λ (s : Serving). serving_after s s.session answer) (sym serves) in
       let over : out ≡ record { packets = []; cap = out.cap } = ap (λ (ps : List PacketView). record { packets = ps; cap = out.cap }) empty in
-      slot_so uses carriage here here sessions kept store store place id now host host out out out queue queue false e e' set empty
-      (nothing_sent carriage queue out.packets empty) over (sym (ap (λ (ps : List PacketView). has_packets (ps ∷ [])) empty))
-      (kept_so (uses store store host id) (serving_of id now here) here (serving_of id now here).session host id now host out out answer left (serves_none (uses store store host id (serving_of id now here).session (serving_of id now here).session).answered (uses store store host id (serving_of id now here).session (serving_of id now here).session).unused host id now out (same (serving_of id now here).session) slot found.1 idle))
+      let rests : can_serve host id ≡ false = ap (λ (o : Option Slot). is_served (option_map (λ slot. work_of slot.conn) o)) found.1 ∙ idle in
+      slot_so uses carriage mode now place id 1 (server host sessions store) (server host kept store) out out out queue queue false e empty
+      (next_so uses now place id 0 (server host sessions store) (server host sessions store) (server host kept store) out out out
+      (none_so uses now place id (server host sessions store) (server host sessions store) out refl)
+      (placed_so uses here here sessions kept store store place id now host host out out e' set
+      (kept_so (uses store store host id) (serving_of id now here) here (serving_of id now here).session host id now host out out answer left (serves_none (uses store store host id (serving_of id now here).session (serving_of id now here).session).answered (uses store store host id (serving_of id now here).session (serving_of id now here).session).unused host id now out (same (serving_of id now here).session) slot found.1 idle))))
+      (rested mode host id out.packets rests) (nothing_sent carriage queue out.packets empty) over (sym (ap (λ (ps : List PacketView). has_packets (ps ∷ [])) empty))

@@ -3,25 +3,25 @@ use Rattle.std.proofs.Common.{◌≡◌, ℕ, suc, Bool, true, if◌then◌else�
 use Rattle.std.proofs.lemmas.List.{length-set}
 use Rattle.chaos_packet.specs.Packet.{PacketView}
 use Rattle.chaos_packet.specs.Outbox.{OutboxView}
-use Rattle.chaos_link.specs.Link.{Ask, AskedSince, Asks, QueueView}
+use Rattle.chaos_link.specs.Link.{Ask, AskedSince, Asks}
 use Rattle.chaos_conn.specs.View.{ConnView}
 use Rattle.chaos_conn.specs.Acted.{Acted}
 use Rattle.chaos_file.specs.Session.{SessionView}
 use Rattle.chaos_host.specs.Acted.{HostActed, HostDoes}
 use Rattle.chaos_host.specs.Slot.{named_slot, place_of}
-use Rattle.chaos_host.specs.View.{HostView, id_at}
+use Rattle.chaos_host.specs.View.{HostView}
 use Rattle.chaos_host.specs.declared.slot.Slot.{Slot}
 use Rattle.chaos_file.specs.ServeHost.{DoesWorkInSlotBy, in_slot}
 use Rattle.chaos_file.specs.Serve.{DoesWorkBy}
 use Rattle.chaos_file.specs.ServeWork.{Work, NotOpen, Nothing, Full, LastItem, Command, work_of}
 use Rattle.chaos_file.specs.declared.served.Served.{Served}
 use Rattle.chaos_link.specs.declared.carriage.Carriage.{Carriage}
-use Rattle.chaos_node.specs.Link.{SendsLots, has_packets}
+use Rattle.chaos_node.specs.Link.{has_packets}
 use Rattle.file_server.specs.Serve.{IsServedAt, ServerDoes, ServesPlaceBy, ServesSlotBy, ServesSlotsBy, SessionServesBy, SlotDoes, Use, Uses, serving_after}
 use Rattle.file_server.specs.Sessions.{Serving, serving_at, serving_of}
-use Rattle.chaos_node.specs.Station.{Station, station}
+use Rattle.file_server.specs.declared.serve_mode.ServeMode.{ServeMode}
+use Rattle.chaos_node.specs.Station.{Station}
 use Rattle.file_server.specs.Server.{Server, server}
-use Rattle.chaos_node.proofs.Phase.{put_into_empty}
 use Rattle.chaos_node.proofs.Queue.{sends_both, has_both}
 
 module _ (answered : List ℕ → List ℕ → Type 0) (unused : Type 0) where
@@ -112,62 +112,52 @@ as_much_room u now id serving left old new before mid done =
     ap (λ (o : OutboxView). o.cap) found.3.does.packets
 
 module _ {S : Type 0} (uses : Uses S) where
-  -- a slot was served by its session, and what was put out went into the link
-  pub slot_so : {asked : List Ask → Type 0} (carriage : Carriage) (here left : Serving) (sessions kept : List Serving) (store store' : S)
-      (place id now : ℕ) (old new : HostView) (before mid rest : OutboxView) (queue after : Option QueueView)
-      (sent : Bool)
-      → id_at old place ≡ Some id → here ≡ serving_at sessions place → kept ≡ slice_set sessions place left
-      → before.packets ≡ []
-      → SendsLots asked carriage queue (mid.packets ∷ []) after → rest ≡ record { packets = []; cap = mid.cap }
-      → sent ≡ has_packets (mid.packets ∷ [])
+  -- The connection at a place was served once, and what was put out stands behind what waited.
+  pub record Placed (now place id : ℕ) (s t : Server S) (before after : OutboxView) : Type 0 where
+    pub packets : List PacketView
+    pub serves : ServesPlaceBy uses now place (Some id) s t (packets ∷ [])
+    pub put : after ≡ record before { packets = before.packets ++ packets }
+    pub config : t.host.config ≡ s.host.config
+    pub size : length t.host.slots ≡ length s.host.slots
+    pub count : length t.sessions ≡ length s.sessions
+
+  -- its slot's session served it
+  pub placed_so : (here left : Serving) (sessions kept : List Serving) (store store' : S) (place id now : ℕ)
+      (old new : HostView) (before after : OutboxView)
+      → here ≡ serving_at sessions place → kept ≡ slice_set sessions place left
       → SessionServesBy (uses store store' old id) now id (serving_of id now here)
-      (λ s acted. SlotDoes s left old acted new before mid) old
-      → ServerDoes asked carriage (ServesSlotBy uses now place) (station (server old sessions store) queue before)
-      (station (server new kept store') after rest) sent
-  slot_so carriage here left sessions kept store store' place id now old new before mid rest queue after sent e e' set
-      empty sends over told done =
+      (λ s acted. SlotDoes s left old acted new before after) old
+      → Placed now place id (server old sessions store) (server new kept store') before after
+  placed_so here left sessions kept store store' place id now old new before after e set done =
       let u = uses store store' old id in
       let found =
-      found_so u now id (serving_of id now here) (λ s acted. SlotDoes s left old acted new before mid) old done in
+      found_so u now id (serving_of id now here) (λ s acted. SlotDoes s left old acted new before after) old done in
       let d = found.3 in
       let acted = found.1 in
-      let packets : mid.packets ≡ acted.packets =
-      ap (λ (o : OutboxView). o.packets) d.does.packets ∙ put_into_empty before acted.packets empty in
       let is : Serving → HostActed Served → Type 0 =
-      IsServedAt place (server old sessions store) (server new kept store') (mid.packets ∷ []) in
+      IsServedAt place (server old sessions store) (server new kept store') (acted.packets ∷ []) in
       let one : SessionServesBy u now id (serving_of id now here) is old
       = become_so u now id (serving_of id now here) (λ l a. (found.0 ≡ l) × (acted ≡ a)) is old
       (λ l a same. record {
         host = d.does.view ∙ ap (λ (x : HostActed Served). x.view) same.1;
         sessions = set ∙ ap (slice_set sessions place) (d.session ∙ same.0);
-        out = ap (λ (ps : List PacketView). ps ∷ []) (packets ∙ ap (λ (x : HostActed Served). x.packets) same.1);
+        out = ap (λ (x : HostActed Served). x.packets ∷ []) same.1;
       }) found.2 in
-      let there : SessionServesBy u now id (serving_of id now (serving_at sessions place)) is old =
-      subst (λ (x : Serving). SessionServesBy u now id (serving_of id now x) is old) e' one in
       record {
-        lots = mid.packets ∷ [];
-        done =
-            subst
-            (λ (o : Option ℕ). ServesPlaceBy uses now place o (server old sessions store) (server new kept store')
-            (mid.packets ∷ []))
-            (sym e) there;
-        sends = sends;
-        outbox =
-            over
-            ∙ (ap (λ (o : OutboxView). record { packets = []; cap = o.cap }) d.does.packets
-            ∙ ap (λ (ps : List PacketView). record { packets = ps; cap = before.cap }) (sym empty));
-        told = told;
+        packets = acted.packets;
+        serves = subst (λ (x : Serving). SessionServesBy u now id (serving_of id now x) is old) e one;
+        put = d.does.packets;
         config = d.does.config;
         size = d.does.size;
         count = ap length set ∙ length-set sessions place left;
       }
 
   -- the first slots were served, and then the next
-  pub slots_so : {L : Type 0} {aa ab ac : AskedSince L Ask} (carriage : Carriage) (a b c : Station (Server S)) (place now : ℕ) (sent more all : Bool)
-      → ServerDoes (Asks aa ab) carriage (ServesSlotsBy uses now place) a b sent
-      → ServerDoes (Asks ab ac) carriage (ServesSlotBy uses now place) b c more
-      → all ≡ (if more then true else sent) → ServerDoes (Asks aa ac) carriage (ServesSlotsBy uses now (suc place)) a c all
-  slots_so carriage a b c place now sent more all one two e =
+  pub slots_so : {L : Type 0} {aa ab ac : AskedSince L Ask} (carriage : Carriage) (a b c : Station (Server S)) (mode : ServeMode) (place now : ℕ) (sent more all : Bool)
+      → ServerDoes (Asks aa ab) carriage (ServesSlotsBy uses mode now place) a b sent
+      → ServerDoes (Asks ab ac) carriage (ServesSlotBy uses mode now place) b c more
+      → all ≡ (if more then true else sent) → ServerDoes (Asks aa ac) carriage (ServesSlotsBy uses mode now (suc place)) a c all
+  slots_so carriage a b c mode place now sent more all one two e =
       record {
         lots = one.lots ++ two.lots;
         done = (b.node, one.lots, two.lots, one.done, two.done, refl);

@@ -14,6 +14,7 @@ use Rattle.chaos_node.specs.declared.end.TurnEnd.{TurnEnd}
 use Rattle.chaos_node.specs.Moments.{Readings, Reads}
 use Rattle.chaos_node.proofs.Reading.{reads_none, reads_then}
 use Rattle.chaos_node.specs.declared.fault.NodeFault.{NodeFault}
+use Rattle.file_server.specs.Serve.{mode_of}
 use Rattle.file_server.specs.Server.{Server}
 use Rattle.file_server.specs.Service.{MadeTurns, MakesTurns, ServesBy, ServesTurn, new_service}
 use Rattle.file_server.specs.Turn.{RunsTurn}
@@ -90,7 +91,7 @@ module _ {S : Type 0} (changes : S → S → StoreChange) (carriage : Carriage) 
 
   -- a turn told without its link: what it asked
   pub serves_turn : {asked : List Ask → Type 0} (now : ℕ) (before after : Station (Server S)) (end : TurnEnd)
-      → RunsTurn changes (Some SILENT_MILLIS) asked (waits true before.node.host) carriage (starts now) now before after end
+      → RunsTurn changes (mode_of carriage) (Some SILENT_MILLIS) asked (waits true before.node.host) carriage (starts now) now before after end
       → (asks : List Ask) × asked asks × ServesTurn changes carriage starts now asks before after
   serves_turn now before after end done = (
     turn_asks carriage (waits true before.node.host) before.outbox.packets done.lots,
@@ -111,14 +112,14 @@ module _ {S : Type 0} (changes : S → S → StoreChange) (carriage : Carriage) 
       (by : Carriage) (first before after : Station (Server S)) (end : TurnEnd)
       → HasServed (Reads ra rb) (Asks aa ab) turns first before → Reads rb rc (now ∷ []) → by ≡ carriage
       → start ≡ starts now
-      → RunsTurn changes (Some SILENT_MILLIS) (Asks ab ac) (waits true before.node.host) by start now before after end
+      → RunsTurn changes (mode_of by) (Some SILENT_MILLIS) (Asks ab ac) (waits true before.node.host) by start now before after end
       → HasServed (Reads ra rc) (Asks aa ac) (turns + 1) first after
   served_next ra rb rc aa ab ac turns start now by first before after end has more same from done =
       let wait = waits true before.node.host in
       made_next (ServesTurn changes carriage starts) ra rb rc aa ab ac turns now first before after has more
       (serves_turn {asked = Asks ab ac} now before after end
-      (subst (λ (k : Carriage). RunsTurn changes (Some SILENT_MILLIS) (Asks ab ac) wait k (starts now) now before after end) same
-      (subst (λ (n : ℕ). RunsTurn changes (Some SILENT_MILLIS) (Asks ab ac) wait by n now before after end) from done)))
+      (subst (λ (k : Carriage). RunsTurn changes (mode_of k) (Some SILENT_MILLIS) (Asks ab ac) wait k (starts now) now before after end) same
+      (subst (λ (n : ℕ). RunsTurn changes (mode_of by) (Some SILENT_MILLIS) (Asks ab ac) wait by n now before after end) from done)))
 
   -- so has the run
   pub served_by : {A : Type 0} (read : List ℕ → Type 0) (asked : List Ask → Type 0) (config : ConfigView)

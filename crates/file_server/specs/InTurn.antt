@@ -1,5 +1,5 @@
 -- A server's turn that has begun, and what its phases do.
-use Rattle.std.specs.Prelude.{◌≡◌, ℕ, Bool, List, Some, slice_set}
+use Rattle.std.specs.Prelude.{◌≡◌, ◌<◌, ℕ, Bool, List, Some, length, slice_set}
 use Rattle.chaos_packet.specs.Packet.{PacketView}
 use Rattle.chaos_host.specs.View.{id_at}
 use Rattle.chaos_link.specs.Link.{Asks}
@@ -29,5 +29,5 @@ module _ {L S : Type 0} {G : Ghosts L} where
   abbrev pub SlotTurnDoes : Turn L G → Turn L G → (ℕ → Server S → Server S → List (List PacketView) → Type 0)
       → ℕ → Serving → Serving → S → S → Bool → Type 0
   SlotTurnDoes before after does id serving left store store' sent = (place : ℕ) → (sessions : List Serving)
-      → id_at before.host.now place ≡ Some id → serving ≡ serving_at sessions place
+      → id_at before.host.now place ≡ Some id → place < length sessions → serving ≡ serving_at sessions place
       → ServerTurnDoes before after (does place) sessions (slice_set sessions place left) store store' sent

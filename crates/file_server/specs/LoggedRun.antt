@@ -9,6 +9,7 @@ use Rattle.chaos_node.specs.Station.{Station}
 use Rattle.chaos_node.specs.declared.end.TurnEnd.{TurnEnd}
 use Rattle.chaos_node.specs.declared.fault.NodeFault.{NodeFault}
 use Rattle.file_server.specs.Logged.{Logged, LogsTurn}
+use Rattle.file_server.specs.Serve.{mode_of}
 use Rattle.file_server.specs.Server.{Server}
 use Rattle.file_server.specs.Service.{MadeTurns, MakesTurns, new_service}
 use Rattle.file_server.specs.Waiting.{waits}
@@ -40,7 +41,7 @@ module _ {S : Type 0} (changes : S → S → StoreChange) (carriage : Carriage) 
     -- what the log had behind the turn, and the report of the link then
     pub logged : Option (List Event)
     pub report : LinkReport
-    pub turn : LogsTurn changes (Some SILENT_MILLIS) (λ asked read. Unit {0}) (λ asked. asked ≡ asks) (waits true before.station.node.host) carriage
+    pub turn : LogsTurn changes (mode_of carriage) (Some SILENT_MILLIS) (λ asked read. Unit {0}) (λ asked. asked ≡ asks) (waits true before.station.node.host) carriage
         (starts now) now before.station (with_log logged after.station) end
     pub looked : watched after.seen after.station.node.store.1
         ≡ watched_slots after.station.node.host after.station.node.sessions

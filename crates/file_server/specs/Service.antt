@@ -12,6 +12,7 @@ use Rattle.chaos_node.specs.declared.limits.TheConstants.{TURN_ROOM}
 use Rattle.chaos_node.specs.Clock.{BeginsBy, IsMoment, number_of}
 use Rattle.chaos_node.specs.declared.clock.Epoch.{Epoch}
 use Rattle.chaos_node.specs.declared.fault.NodeFault.{NodeFault}
+use Rattle.file_server.specs.Serve.{mode_of}
 use Rattle.file_server.specs.Server.{Server, server}
 use Rattle.file_server.specs.Sessions.{new_serving}
 use Rattle.file_server.specs.Turn.{RunsTurn}
@@ -53,7 +54,7 @@ module _ {S : Type 0} (changes : S → S → StoreChange) (carriage : Carriage) 
   pub record ServesTurn (starts : ℕ → ℕ) (now : ℕ) (asks : List Ask) (before after : Station (Server S)) : Type 0
     where
       pub end : TurnEnd
-      pub turn : RunsTurn changes (Some SILENT_MILLIS) (λ asked. asked ≡ asks) (waits true before.node.host) carriage (starts now) now before
+      pub turn : RunsTurn changes (mode_of carriage) (Some SILENT_MILLIS) (λ asked. asked ≡ asks) (waits true before.node.host) carriage (starts now) now before
           after end
 
   -- One turn at each of these moments, one after another, in which the link was asked just this.

@@ -2,7 +2,8 @@
 //! service.
 //!
 //! [`run_turn`] is one turn: what came is delivered, requests for FILE are accepted, each slot is
-//! served once, and what is due is done. [`Server`] has what a service needs for such turns.
+//! served once, and what is due is done. [`Server`] has what a service needs for such turns, and by
+//! carriage 2 serves each slot in a burst ([`ServeMode`]).
 //! [`run_serve_by`] makes each turn at the next moment of a source, and notes in a [`Log`] which
 //! connections opened and ended.
 //!
@@ -17,6 +18,7 @@ mod ending;
 mod limits;
 mod log;
 mod phases;
+mod serve_mode;
 mod serve_run;
 mod server;
 mod serving;
@@ -26,8 +28,9 @@ mod turn_input;
 mod waiting;
 mod watch;
 
-pub use limits::law_limits;
+pub use limits::{BURST, law_limits};
 pub use log::{Ending, LinkLog, Log, Silent};
+pub use serve_mode::ServeMode;
 pub use serve_run::{ServeOptions, run_serve_by};
 pub use server::Server;
 pub use sessions::Sessions;

@@ -26,12 +26,13 @@ pub(crate) fn take_turn<S: Store, L: Link, G: Log>(
 ) -> bool
     requires alike { length sessions.old ≡ length turn.old.host.now.slots }
     ensures { ServerTurnDoes turn.old turn.new
-        (IsTurnBy (logged_uses (change S.contents S.may_give S.count)) input.now.silence came.entry
+        (IsTurnBy (logged_uses (change S.contents S.may_give S.count)) input.now.mode
+        input.now.silence came.entry
         input.now.start turn.old.now) sessions.old sessions.new (store.old, G.logged log.old)
         (store.new, G.logged log.new) result }
 {
     let arrived = arrive_at_server(turn, came, input.start);
-    let served = serve_slots(turn, sessions, store, input.alloc, log);
+    let served = serve_slots(turn, sessions, store, input, log);
     let ended = end_slots(turn, sessions, input.silence);
     sessions.give_back(turn.host);
     any_of(arrived, served, ended)

@@ -59,10 +59,10 @@ pub fn run_serve_by<M: Moments, L: Link, S: Store, G: LinkLog<L>>(
     // However the run ends, it made one turn at each moment that it read, in order, and read each
     // moment behind the turn before. If it ends well, it made all turns, otherwise at most so many.
     // Each turn is the definition's, with `SILENT_MILLIS`, of a service of this address and
-    // configuration that began with 16 new sessions. A new connection numbers what it writes from
-    // the number of its moment. What came is known only over a queue. Whatever the link is, it was
-    // asked exactly what these turns ask, turn by turn. Each turn waits for a datagram exactly
-    // where nothing in front can be served.
+    // configuration that began with 16 new sessions. By carriage 2 a turn serves each connection in
+    // a burst. A new connection numbers what it writes from the number of its moment. What came is
+    // known only over a queue. Whatever the link is, it was asked exactly what these turns ask, turn
+    // by turn. Each turn waits for a datagram exactly where nothing in front can be served.
     ensures turns { ServesBy (change S.contents S.may_give S.count) options.carriage
         (Reads (M.read moments.old) (M.read moments.new))
         (Asks (L.asked link.old) (L.asked link.new)) (M.starts (M.time moments.old)) options.config

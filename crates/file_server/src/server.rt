@@ -4,6 +4,7 @@ ghost use Rattle.std.specs.Prelude.{◌≡◌, ◌<◌, ◌↔◌, length, IfErr
 use crate::limits::{SERVER_CONNS, SILENT_MILLIS};
 use crate::log::{LinkLog, Log};
 use crate::phases::take_turn;
+use crate::serve_mode::ServeMode;
 use crate::sessions::Sessions;
 use crate::turn_input::TurnInput;
 use crate::waiting::waits;
@@ -37,6 +38,7 @@ impl Server {
     ghost use Rattle.file_server.specs.Sessions.{new_serving};
     ghost use Rattle.file_server.specs.declared.limits.TheConstants.{SILENT_MILLIS};
     ghost use Rattle.file_server.specs.Logged.{IsReadOf, LogsTurn};
+    ghost use Rattle.file_server.specs.Serve.{mode_of};
     ghost use Rattle.file_server.specs.Service.{listening_host, service_of};
     ghost use Rattle.file_server.specs.Turn.{RunsTurn};
     ghost use Rattle.file_server.specs.Waiting.{waits};
@@ -85,9 +87,10 @@ impl Server {
         }
     }
 
-    /// One turn, as [`run_turn`](crate::run_turn) makes it. The turn also closes each connection
-    /// whose peer acknowledged nothing in the first 30 seconds. A new connection numbers what it
-    /// writes from `start` on. If nothing in front is to be served, the turn may wait for a
+    /// One turn, as [`run_turn`](crate::run_turn) makes it. By carriage 2 each connection is served
+    /// in a burst ([`ServeMode`]), and the replies to it go out together. The turn also closes each
+    /// connection whose peer acknowledged nothing in the first 30 seconds. A new connection numbers
+    /// what it writes from `start` on. If nothing in front is to be served, the turn may wait for a
     /// datagram, where `may_wait` allows it. The log gets what each command changed.
     pub fn turn<S: Store, L: Link, G: LinkLog<L>>(
         &mut self,
@@ -100,12 +103,14 @@ impl Server {
     ) -> TurnEnd
         // The turn ends by `LinkFault` exactly where the link's count of failures rose.
         ensures fault { (result ≡ TurnEnd.LinkFault) ↔ Rose (L.count link.old) (L.count link.new) }
-        // The turn is the definition's at this moment, by the server's carriage. A connection that
-        // it accepts numbers what it writes from `start`. It also closes, with an empty text, each
-        // connection that was served first `SILENT_MILLIS` ago or earlier and whose peer has
-        // receipted and acknowledged nothing. Its one receive waits exactly where `may_wait` allows
-        // it and nothing in front can be served.
-        ensures serves { RunsTurn (change S.contents S.may_give S.count) (Some SILENT_MILLIS)
+        // The turn is the definition's at this moment, by the server's carriage. By carriage 1 each
+        // slot is served once. By carriage 2 each is served in a burst, whose packets go out at
+        // once. A connection that the turn accepts numbers what it writes from `start`. The turn
+        // also closes, with an empty text, each connection that was served first `SILENT_MILLIS`
+        // ago or earlier and whose peer has receipted and acknowledged nothing. The one receive
+        // waits exactly where `may_wait` allows it and nothing in front can be served.
+        ensures serves { RunsTurn (change S.contents S.may_give S.count)
+            (mode_of self.old.node.carriage) (Some SILENT_MILLIS)
             (Asks (L.asked link.old) (L.asked link.new)) (waits may_wait self.old.node.host)
             self.old.node.carriage start now (service_of self.old store.old (L.queue link.old))
             (service_of self.new store.new (L.queue link.new)) result }
@@ -116,7 +121,8 @@ impl Server {
         // connection whose command it was, the name that this connection's user gave, and the
         // change by the whole promise of `Session::apply_into`. For all else that the turn did, it
         // logged nothing.
-        ensures logs { LogsTurn (change S.contents S.may_give S.count) (Some SILENT_MILLIS)
+        ensures logs { LogsTurn (change S.contents S.may_give S.count)
+            (mode_of self.old.node.carriage) (Some SILENT_MILLIS)
             (IsReadOf G.reads (λ at. Asks (L.asked link.old) (L.asked at)))
             (Asks (L.asked link.old) (L.asked link.new)) (waits may_wait self.old.node.host)
             self.old.node.carriage start now
@@ -146,6 +152,7 @@ impl Server {
         let input = TurnInput {
             alloc: self.alloc,
             start,
+            mode: ServeMode::of(carriage),
             silence: Some(SILENT_MILLIS),
         };
         let sent = take_turn(

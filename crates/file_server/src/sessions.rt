@@ -3,12 +3,15 @@ ghost use Rattle.std.specs.Prelude.{◌≡◌, ◌<◌, ◌≤◌, ℕ, [], IfOk
 ghost use Rattle.chaos_packet.specs.Outbox.{room_of};
 ghost use Rattle.chaos_host.specs.View.{id_at};
 ghost use Rattle.chaos_file.specs.Store.{change};
-ghost use Rattle.file_server.specs.Logged.{report_use};
+ghost use Rattle.file_server.specs.Logged.{logged_use};
 ghost use Rattle.file_server.specs.Serve.{SessionServesBy, SlotDoes};
 ghost use Rattle.file_server.specs.Sessions.{HasNoFiles, Serving, first_serving, new_serving, serving_at, serving_of, without_files};
 ghost use Rattle.file_server.specs.Slots.{given_back, given_back_in};
+ghost use Rattle.file_server.specs.Watch.{peer_at};
 
-use chaos_file::{Change, ServeAt, Served, Session, Store, serve_and_report};
+use crate::log::Log;
+use crate::watch::peer_of;
+use chaos_file::{ServeAt, Served, Session, Store, serve_and_report};
 use chaos_host::{ConnId, Host};
 use chaos_packet::Outbox;
 use std::alloc::{AllocError, Global};
@@ -185,23 +188,26 @@ impl SlotSession {
     }
 
     /// Serves a connection once: with a new session, unless it is the one that was served so far.
-    /// Keeps that an EOF was served, or counts the command; and keeps whether files are open. Says
+    /// Keeps that an EOF was served, or counts the command; and keeps whether files are open. Logs
     /// what the command changed.
-    pub(crate) fn serve<S: Store>(
+    pub(crate) fn serve<S: Store, G: Log>(
         &mut self,
         host: &mut Host,
         id: ConnId,
         store: &mut S,
         out: &mut Outbox,
         at: &ServeAt,
-    ) -> Option<Change>
+        log: &mut G,
+    )
         requires { 2 ≤ room_of out.old }
         ensures { SessionServesBy
-            (report_use (change S.contents S.may_give S.count store.old store.new) result)
+            (logged_use (change S.contents S.may_give S.count store.old store.new)
+            (G.logged log.old) (G.logged log.new) (peer_at host.old id))
             at.now.moment id (serving_of id at.now.moment self.old)
             (λ serving acted. SlotDoes serving self.new host.old acted host.new out.old out.new)
             host.old }
     {
+        let peer = peer_of(host, id);
         if self.id != Some(id) {
             self.begin(id, at.moment);
         }
@@ -213,7 +219,9 @@ impl SlotSession {
             _ => {}
         }
         self.may_hold = self.session.open_files() > 0;
-        made
+        if let Some(change) = &made {
+            log.changed(peer, self.session.name(), change, store.cause());
+        }
     }
 
     /// Gives its files back, where its slot has no connection. Says whether it may have files open

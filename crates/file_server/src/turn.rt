@@ -9,9 +9,11 @@ ghost use Rattle.chaos_link.specs.Link.{Asks};
 ghost use Rattle.chaos_node.specs.Station.{station};
 ghost use Rattle.file_server.specs.Server.{server};
 ghost use Rattle.file_server.specs.Turn.{RunsTurn};
+ghost use Rattle.file_server.specs.declared.serve_mode.ServeMode.TheVariants.{Once};
 
 use crate::log::Silent;
 use crate::phases::take_turn;
+use crate::serve_mode::ServeMode;
 use crate::sessions::Sessions;
 use crate::turn_input::TurnInput;
 use chaos_file::Store;
@@ -30,7 +32,8 @@ use std::alloc::Global;
 /// 2. Where one was a new request for contact FILE, the request is accepted before the next packet
 ///    is delivered; what its connection writes is numbered from `start` on.
 /// 3. Each slot in use is served once, in rising order, by its own session. It is a new session
-///    where another connection was in the slot before.
+///    where another connection was in the slot before. ([`Server::turn`](crate::Server::turn) also
+///    serves in bursts.)
 /// 4. Each connection whose EOF was served and whose peer read all is closed with an empty text.
 /// 5. Each ended connection is released.
 /// 6. Each slot is ticked.
@@ -81,7 +84,7 @@ pub fn run_turn<S: Store, L: Link>(
     // to send the packets of the turn, lot by lot, each to its destination. By carriage 1 a packet
     // is sent as its canonical datagram. By carriage 2 the packets that are sent at once go as the
     // datagrams of their loads. Over a queue they go out so.
-    ensures turn { RunsTurn (change S.contents S.may_give S.count) None
+    ensures turn { RunsTurn (change S.contents S.may_give S.count) Once None
         (Asks (L.asked link.old) (L.asked link.new)) may_wait carriage start now
         (station (server host.old sessions.old store.old) (L.queue link.old) out.old)
         (station (server host.new sessions.new store.new) (L.queue link.new) out.new) result }
@@ -101,6 +104,7 @@ pub fn run_turn<S: Store, L: Link>(
     let input = TurnInput {
         alloc,
         start,
+        mode: ServeMode::Once,
         silence: None,
     };
     let sent = take_turn(&mut turn, sessions, store, begun.came, &input, &mut Silent);

@@ -1,5 +1,6 @@
 //! How a turn is made.
 
+use crate::serve_mode::ServeMode;
 use chaos_packet::PktNum;
 use std::alloc::Global;
 
@@ -10,6 +11,8 @@ pub(crate) struct TurnInput {
     pub(crate) alloc: Global,
     /// The number from which on a new connection numbers what it writes.
     pub(crate) start: PktNum,
+    /// How each slot is served.
+    pub(crate) mode: ServeMode,
     /// For how many milliseconds a peer is served that acknowledges nothing. `None`: as long as it
     /// is heard.
     pub(crate) silence: Option<u64>,

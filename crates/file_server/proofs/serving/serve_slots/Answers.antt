@@ -29,9 +29,9 @@ slots-preserved-then-eq g c =
       bare = c.slots.invariant.bare;
       done =
           rw (add-one place)
-          (none_to_serve uses turn c.slots.turn place c.in-Some.at.1 c.in-Some.at.2.now here c.args.sessions.now kept
+          (none_to_serve uses c.args.input.now.mode turn c.slots.turn place c.in-Some.at.1 c.in-Some.at.2.now here c.args.sessions.now kept
           (c.args.store.now, entries c.args.log.now) (c.slots.store, entries c.slots.log) c.slots.sent
-          (served_to uses turn c.slots.turn c.slots.from place c.args.sessions.now kept
+          (served_to uses c.args.input.now.mode turn c.slots.turn c.slots.from place c.args.sessions.now kept
           (c.args.store.now, entries c.args.log.now) (c.slots.store, entries c.slots.log) c.slots.sent next.behind next.free
           c.slots.invariant.done)
           c.in-Some.ensures.index (get_or_read kept place here inside c.index.ensures new_serving)
@@ -65,13 +65,13 @@ slots-preserved-then-may_hold_files g c =
           (λ apart. last.bare k (omega (arith, highest, from)));
       done =
           rw (add-one place)
-          (one_served uses turn c.slots.turn served.new.turn place c.args.sessions.now kept
+          (one_served uses c.args.input.now.mode turn c.slots.turn served.new.turn place c.args.sessions.now kept
           (slice_set kept place left) (c.args.store.now, entries c.args.log.now) (c.slots.store, entries c.slots.log)
           (served.new.store, entries served.new.log) c.slots.sent served.result c.if-serve_slot.sent
-          (served_to uses turn c.slots.turn c.slots.from place c.args.sessions.now kept
+          (served_to uses c.args.input.now.mode turn c.slots.turn c.slots.from place c.args.sessions.now kept
           (c.args.store.now, entries c.args.log.now) (c.slots.store, entries c.slots.log) c.slots.sent next.behind next.free
           last.done)
-          (served.ensures place kept c.in-Some.ensures.index
+          (served.ensures place kept c.in-Some.ensures.index inside
           (get_or_read kept place c.index_mut.result.now inside c.index_mut.ensures.value new_serving))
           (elim c.if-serve_slot.branch [ then-serve_slot w ↦ search rules | else-serve_slot w ↦ search rules ]));
     }
@@ -105,13 +105,13 @@ slots-preserved g c =
           set_bare kept place k left inside (λ same. bare) (λ apart. last.bare k from);
       done =
           rw (add-one place)
-          (one_served uses turn c.slots.turn served.new.turn place c.args.sessions.now kept
+          (one_served uses c.args.input.now.mode turn c.slots.turn served.new.turn place c.args.sessions.now kept
           (slice_set kept place left) (c.args.store.now, entries c.args.log.now) (c.slots.store, entries c.slots.log)
           (served.new.store, entries served.new.log) c.slots.sent served.result c.if-serve_slot.sent
-          (served_to uses turn c.slots.turn c.slots.from place c.args.sessions.now kept
+          (served_to uses c.args.input.now.mode turn c.slots.turn c.slots.from place c.args.sessions.now kept
           (c.args.store.now, entries c.args.log.now) (c.slots.store, entries c.slots.log) c.slots.sent next.behind next.free
           last.done)
-          (served.ensures place kept c.in-Some.ensures.index
+          (served.ensures place kept c.in-Some.ensures.index inside
           (get_or_read kept place c.index_mut.result.now inside c.index_mut.ensures.value new_serving))
           (elim c.if-serve_slot.branch [ then-serve_slot w ↦ search rules | else-serve_slot w ↦ search rules ]));
     }
@@ -119,7 +119,7 @@ slots-preserved g c =
 pub returns : goal.returns
 returns g c =
     let entries = g.G.Log.logged in
-    served_to (logged_uses (change g.S.Store.contents g.S.Store.may_give g.S.Store.count)) c.args.turn.now c.slots.turn
+    served_to (logged_uses (change g.S.Store.contents g.S.Store.may_give g.S.Store.count)) c.args.input.now.mode c.args.turn.now c.slots.turn
     c.slots.from (length c.args.turn.now.host.now.slots) c.args.sessions.now c.slots.sessions-inside.kept.items
     (c.args.store.now, entries c.args.log.now) (c.slots.store, entries c.slots.log) c.slots.sent c.slots.invariant.within
     (λ k behind below. c.in_default.ensures.next k behind) c.slots.invariant.done

@@ -13,7 +13,7 @@ invariant-slots g l = record {
   bare : (k : ℕ) → l.sessions-inside.files_below ≤ k → HasNoFiles (serving_at l.sessions-inside.kept.items k);
   done :
       ServerTurnDoes l.fn.turn l.turn
-      (ServesSlotsBy (logged_uses (change g.S.Store.contents g.S.Store.may_give g.S.Store.count)) l.fn.turn.now l.from)
+      (ServesSlotsBy (logged_uses (change g.S.Store.contents g.S.Store.may_give g.S.Store.count)) l.input.mode l.fn.turn.now l.from)
       l.fn.sessions l.sessions-inside.kept.items (l.fn.store, g.G.Log.logged l.fn.log) (l.store, g.G.Log.logged l.log) l.sent;
 }
 

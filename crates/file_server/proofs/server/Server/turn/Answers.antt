@@ -8,12 +8,14 @@ use Rattle.chaos_node.specs.Station.{station}
 use Rattle.chaos_node.proofs.InTurn.{left_as}
 use Rattle.chaos_node.proofs.Whole.{goes_over}
 use Rattle.file_server.specs.InTurn.{server_in}
+use Rattle.file_server.specs.Serve.{mode_of}
 use Rattle.file_server.specs.Server.{server}
 use Rattle.file_server.specs.Service.{service_of}
 use Rattle.file_server.specs.Logged.{IsReadOf, LogsTurn, logged_arrival, logged_uses}
 use Rattle.file_server.specs.Turn.{IsTurnBy}
 use Rattle.file_server.specs.Watch.{Event}
 use Rattle.file_server.specs.Waiting.{waits}
+use Rattle.file_server.specs.declared.serve_mode.ServeMode.{ServeMode}
 use Rattle.file_server.specs.declared.limits.TheConstants.{SILENT_MILLIS}
 use Rattle.file_server.proofs.Logged.{logs_plain}
 use Rattle.file_server.proofs.server.Server.turn.Goals as goal
@@ -41,12 +43,12 @@ returns-clause-logs g c =
     ] in
     let before = service_of c.args.self.now (c.args.store.now, entries c.args.log.now) (queue c.args.link.now) in
     left_as
-    (λ (h : HostView) l (o : OutboxView). LogsTurn changes (Some SILENT_MILLIS) read (Asks (asked c.args.link.now) (asked l))
+    (λ (h : HostView) l (o : OutboxView). LogsTurn changes (mode_of node.carriage) (Some SILENT_MILLIS) read (Asks (asked c.args.link.now) (asked l))
     (waits c.args.may_wait node.host) node.carriage c.args.start c.args.now before
     (station (server h sent.new.sessions (sent.new.store, entries sent.new.log)) (queue l) o) c.end_of.result)
     sent.new.turn _ _ _ (search rules) (search rules) (search rules)
     (subst
-    (λ (w : Bool). LogsTurn changes (Some SILENT_MILLIS) read (Asks (asked c.args.link.now) (asked sent.new.turn.link.now)) w
+    (λ (w : Bool). LogsTurn changes (mode_of node.carriage) (Some SILENT_MILLIS) read (Asks (asked c.args.link.now) (asked sent.new.turn.link.now)) w
     node.carriage c.args.start c.args.now before (server_in sent.new.turn sent.new.sessions (sent.new.store, entries sent.new.log))
     c.end_of.result)
     c.waits-may_wait.ensures
@@ -57,10 +59,15 @@ returns-clause-logs g c =
       lots = sent.ensures.0.lots;
       turn =
           subst
-          (λ (t : Option (List Event)). IsTurnBy (logged_uses changes) (Some SILENT_MILLIS) begun.result.came c.args.start
+          (λ (t : Option (List Event)). IsTurnBy (logged_uses changes) (mode_of node.carriage) (Some SILENT_MILLIS) begun.result.came c.args.start
           c.args.now (server node.host c.args.self.now.sessions (c.args.store.now, t))
           (server_in sent.new.turn sent.new.sessions (sent.new.store, entries sent.new.log)).node sent.ensures.0.lots)
-          logged sent.ensures.0.done;
+          logged
+          (subst
+          (λ (mode : ServeMode). IsTurnBy (logged_uses changes) mode (Some SILENT_MILLIS) begun.result.came c.args.start
+          c.args.now (server node.host c.args.self.now.sessions (c.args.store.now, entries c.match-begun.log))
+          (server_in sent.new.turn sent.new.sessions (sent.new.store, entries sent.new.log)).node sent.ensures.0.lots)
+          c.of.ensures sent.ensures.0.done);
       link =
           goes_over node.carriage before (server_in sent.new.turn sent.new.sessions (sent.new.store, entries sent.new.log))
           (queue begun.new.link) sent.ensures.0.lots begun.result.came begun.result.worked sent.result c.end_of.result
@@ -69,4 +76,4 @@ returns-clause-logs g c =
 
 pub returns-clause-serves : goal.returns-clause-serves
 returns-clause-serves g c =
-    logs_plain (change g.S.Store.contents g.S.Store.may_give g.S.Store.count) _ _ _ _ _ _ _ _ _ _ (returns-clause-logs g c)
+    logs_plain (change g.S.Store.contents g.S.Store.may_give g.S.Store.count) _ _ _ _ _ _ _ _ _ _ _ (returns-clause-logs g c)
