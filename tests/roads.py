@@ -123,8 +123,18 @@ class Losing(Case):
                     self.check(f"{subcommand}, {delay * 1_000:.0f} ms each way, 1% lost", problems)
 
 
+class Measuring(Road):
+    """A road that notes how long the longest datagram was."""
+
+    longest = 0
+
+    def carries(self, datagram, is_clients):
+        self.longest = max(self.longest, len(datagram))
+        return True
+
+
 class Bundles(Case):
-    """A road that drops datagrams of more than 1,400 bytes, as a firewall does that drops fragments."""
+    """Roads that drop long datagrams: those of more than 1,400 bytes, as some firewalls do, and those that go in fragments."""
 
     seconds = 40
 
@@ -139,6 +149,20 @@ class Bundles(Case):
                 problems = ended.problems(DONE, b"", b"") or stored_problems(target / "F", content)
                 problems += [] if road.lost else ["nothing was lost"]
                 self.check(f"{subcommand} --carriage 2 where datagrams of more than 1,400 bytes are dropped", problems)
+
+    def test_carriage_2_sends_several_packets_at_once_and_no_fragments(self):
+        """An Ethernet frame of 1,500 bytes carries 1,472 behind 20 of IP and 8 of UDP."""
+        content = mixed_content(40_000)
+        for subcommand in ["put", "get"]:
+            with serving(options=["--carriage", "2"]) as server, folder() as here:
+                source, target = (here, server.folder) if subcommand == "put" else (server.folder, here)
+                (source / "F").write_bytes(content)
+                with road_before(server, make=Measuring, most=1_472) as road:
+                    ended = copied(road, subcommand, "F", options=["--carriage", "2"], cwd=here)
+                problems = ended.problems(DONE, b"", b"") or stored_problems(target / "F", content)
+                problems += [f"{road.lost} datagrams were longer than 1,472 bytes"] if road.lost else []
+                problems += [] if road.longest > 2 * 508 else [f"the longest datagram had {road.longest} bytes"]
+                self.check(f"{subcommand} --carriage 2 where fragments are dropped", problems)
 
 
 class Junk(threading.Thread):

@@ -5,6 +5,7 @@
 (defconstant +front-size+ 4 "The octets of the mark and the version.")
 (defconstant +most-packets+ 8)
 (defconstant +most-bundle+ 2020 "The octets of the greatest datagram of version 2.")
+(defconstant +most-sent+ 1472 "The octets of the greatest that is sent: an Ethernet frame takes it whole.")
 (defconstant +most-datagram+ 2048 "The octets of a buffer for any datagram.")
 
 (defun packet-size (packet) (size-with (length (pkt-data packet))))
@@ -18,12 +19,12 @@
       (setf at (write-packet packet octets at)))))
 
 (defun front-count (packets)
-  "How many of the first of PACKETS, which go to one host, a datagram of version 2 carries."
+  "How many of the first of PACKETS, which go to one host, are sent in a datagram of version 2."
   (loop with size = +front-size+
         for packet in packets
         for before below +most-packets+
         while (and (= (pkt-to packet) (pkt-to (first packets)))
-                   (<= (incf size (packet-size packet)) +most-bundle+))
+                   (<= (incf size (packet-size packet)) +most-sent+))
         count t))
 
 (defun send-packets (packets version send)

@@ -204,9 +204,9 @@ of the session."
         (counts '()))
     (send-packets packets 2 (lambda (address octets)
                               (declare (ignore address))
-                              (check (<= (length octets) 2020) t)
+                              (check (<= (length octets) 1472) t)
                               (push (length (datagram-packets octets (length octets))) counts)))
-    (check (reverse counts) '(8 8 7 4 2 3))))
+    (check (reverse counts) '(8 8 6 2 2 2 1 3))))
 
 ;;; CHUDP: datagrams, the next hop of each, and what `show` would print of its packet
 

@@ -6,11 +6,11 @@ use Rattle.std.proofs.lemmas.List.Elements.{All-append, All-cons, All-head, All-
 use Rattle.std.proofs.lemmas.Bool.Decides.{nat_tests}
 use Rattle.chaos_packet.specs.Packet.{PacketView}
 use Rattle.chaos_packet.specs.Words.{Spells, spelling_of, words_for}
-use Rattle.chaos_link.specs.Bundle.{bytes_for, fit_together, spelling_of_all}
+use Rattle.chaos_link.specs.Bundle.{bytes_for, fit_within, spelling_of_all}
 use Rattle.chaos_link.specs.Datagram.{wire, words_of}
 use Rattle.chaos_link.specs.Loads.{IsBuilt, joins, load_in}
 use Rattle.chaos_link.specs.Packets.{Carries2, mark_of, packets_at}
-use Rattle.chaos_link.proofs.Bundled.{bytes_behind, carried_together, each_behind, fit, spelled_in_turn, spelling_behind, wire-append}
+use Rattle.chaos_link.proofs.Bundled.{bytes_behind, carried_together, each_behind, fit, sent_fit, spelled_in_turn, spelling_behind, wire-append}
 use Rattle.chaos_link.proofs.Several.{all_read}
 use Rattle.chaos_link.proofs.Words.{words_of-wire}
 
@@ -39,13 +39,13 @@ built_in load to end bytes built =
 pub built_carries : (load : List PacketView) (to end : ℕ) (bytes : List ℕ) → IsBuilt load to end bytes
     → Carries2 load (take end bytes)
 built_carries load to end bytes built =
-    rw built.front (carried_together load built.fit (spelled_in_turn load built.spelled))
+    rw built.front (carried_together load (sent_fit load built.fit) (spelled_in_turn load built.spelled))
 
 -- ---- the first packet
 
-pub one_fits : (p : PacketView) → length p.body ≤ 488 → fit_together (p ∷ []) ≡ true
+pub one_fits : (p : PacketView) → length p.body ≤ 488 → fit_within 1472 (p ∷ []) ≡ true
 one_fits p small =
-    let bytes : 4 + bytes_for (p ∷ []) ≤ 2020 = omega arith in
+    let bytes : 4 + bytes_for (p ∷ []) ≤ 1472 = omega arith in
     grind (arith, nat_tests)
 
 -- ---- one more
@@ -53,8 +53,8 @@ one_fits p small =
 -- whether a packet joins shows in where the load goes, in byte 3, and in the bytes
 pub joins_is : (load : List PacketView) (p : PacketView) (to end n : ℕ) (bytes : List ℕ) → IsBuilt load to end bytes
     → n ≡ 2 * (8 + words_for (length p.body))
-    → joins load p ≡ (eqb p.dst to && (nat_lt (get_or bytes 3 0) 8 && not (nat_lt 2020 (end + n))))
-joins_is [] p to end n bytes built size = absurd (omega (arith, (fit [] built.fit).some))
+    → joins load p ≡ (eqb p.dst to && (nat_lt (get_or bytes 3 0) 8 && not (nat_lt 1472 (end + n))))
+joins_is [] p to end n bytes built size = absurd (omega (arith, (fit 1472 [] built.fit).some))
 joins_is (first ∷ others) p to end n bytes built size =
     let number = number_is (first ∷ others) to end bytes built in
     let more = bytes_behind (first ∷ others) p in
@@ -71,7 +71,8 @@ pub joined_built : (load : List PacketView) (p : PacketView) (to end new_end : �
     → Spells p (spelling_of p) → new_end ≡ end + 2 * (8 + words_for (length p.body))
     → take new_end new ≡ take end (set bytes 3 (get_or bytes 3 0 + 1)) ++ wire (spelling_of p)
     → IsBuilt (load ++ p ∷ []) to new_end new
-joined_built [] p to end new_end bytes new built h spelled size front = absurd (omega (arith, (fit [] built.fit).some))
+joined_built [] p to end new_end bytes new built h spelled size front =
+    absurd (omega (arith, (fit 1472 [] built.fit).some))
 joined_built (first ∷ others) p to end new_end bytes new built h spelled size front =
     let load = first ∷ others in
     let one : first.dst ≡ to = All-head (λ q. q.dst ≡ to) first others built.one in
@@ -98,22 +99,22 @@ joined_built (first ∷ others) p to end new_end bytes new built h spelled size 
 -- where the load has room for one more, whether a packet joins is read off the bytes
 pub in_bytes : (load : List PacketView) (p : PacketView) (to end n : ℕ) (bytes : List ℕ) → IsBuilt load to end bytes
     → n ≡ 2 * (8 + words_for (length p.body))
-    → p.dst ≡ to → (get_or bytes 3 0 ≡ 8 → ⊥) → leb (end + n) 2020 ≡ joins load p
+    → p.dst ≡ to → (get_or bytes 3 0 ≡ 8 → ⊥) → leb (end + n) 1472 ≡ joins load p
 in_bytes load p to end n bytes built size same other =
     let count = number_is load to end bytes built in
-    let few : get_or bytes 3 0 < 8 = omega (arith, count, other, (fit load built.fit).few) in
+    let few : get_or bytes 3 0 < 8 = omega (arith, count, other, (fit 1472 load built.fit).few) in
     let yes : eqb p.dst to ≡ true = grind (arith, nat_tests) in
     let more : nat_lt (get_or bytes 3 0) 8 ≡ true = grind (arith, nat_tests) in
-    let so : not (nat_lt 2020 (end + n)) ≡ leb (end + n) 2020 = grind (arith, nat_tests) in
+    let so : not (nat_lt 1472 (end + n)) ≡ leb (end + n) 1472 = grind (arith, nat_tests) in
     sym (joins_is load p to end n bytes built size ∙ rw (yes, more) so)
 
 -- and there is room for one that does
-pub together : (load : List PacketView) (p : PacketView) → joins load p ≡ true → fit_together (load ++ p ∷ []) ≡ true
+pub together : (load : List PacketView) (p : PacketView) → joins load p ≡ true → fit_within 1472 (load ++ p ∷ []) ≡ true
 together [] p h = cc
 together (first ∷ others) p h = grind arith
 
 pub room_for : (load : List PacketView) (p : PacketView) (to end : ℕ) (bytes : List ℕ) → IsBuilt load to end bytes
     → joins load p ≡ true
-    → end + 2 * (8 + words_for (length p.body)) ≤ 2020
+    → end + 2 * (8 + words_for (length p.body)) ≤ 1472
 room_for load p to end bytes built h =
-    omega (arith, built.size, bytes_behind load p, (fit (load ++ p ∷ []) (together load p h)).bytes)
+    omega (arith, built.size, bytes_behind load p, (fit 1472 (load ++ p ∷ []) (together load p h)).bytes)

@@ -8,7 +8,7 @@ use Rattle.chaos_packet.specs.Words.{Spells, spelling_of, words_for}
 use Rattle.chaos_packet.proofs.Packing.{length-packed}
 use Rattle.chaos_link.specs.Datagram.{wire}
 use Rattle.chaos_link.specs.Packets.{Carries2, SpellsAll}
-use Rattle.chaos_link.specs.Bundle.{bytes_for, fit_together, spelling_of_all, datagram_of_all}
+use Rattle.chaos_link.specs.Bundle.{bytes_for, fit_together, fit_within, spelling_of_all, datagram_of_all}
 use Rattle.chaos_link.specs.Loads.{EachSpelled}
 use Rattle.chaos_link.proofs.Words.{length-wire}
 
@@ -87,18 +87,25 @@ all_spelled_in_turn ps i end each = spelled_in_turn ps (rw (take_all i ps end) a
 
 -- ---- packets that fit are carried, and no others
 
-pub record Fit (ps : List PacketView) : Type 0 where
+pub record Fit (most : ℕ) (ps : List PacketView) : Type 0 where
   pub some : 1 ≤ length ps
   pub few : length ps ≤ 8
-  pub bytes : 4 + bytes_for ps ≤ 2020
+  pub bytes : 4 + bytes_for ps ≤ most
 
-pub fit : (ps : List PacketView) → fit_together ps ≡ true → Fit ps
-fit ps h = record { some = grind (arith, nat_tests); few = grind (arith, nat_tests); bytes = grind (arith, nat_tests) }
+pub fit : (most : ℕ) (ps : List PacketView) → fit_within most ps ≡ true → Fit most ps
+fit most ps h = record { some = grind (arith, nat_tests); few = grind (arith, nat_tests); bytes = grind (arith, nat_tests) }
+
+-- what may be sent may be carried
+pub sent_fit : (ps : List PacketView) → fit_within 1472 ps ≡ true → fit_together ps ≡ true
+sent_fit ps h =
+    let parts = fit 1472 ps h in
+    let bytes : 4 + bytes_for ps ≤ 2020 = omega (arith, parts.bytes) in
+    grind (arith, nat_tests, parts.some, parts.few)
 
 pub carried_together : (ps : List PacketView) → fit_together ps ≡ true → SpellsAll ps (spelling_of_all ps)
     → Carries2 ps (datagram_of_all ps)
 carried_together ps h spelled =
-    let parts = fit ps h in
+    let parts = fit 2020 ps h in
     let size : length (datagram_of_all ps) ≡ 4 + length (wire (spelling_of_all ps)) = omega arith in
     record {
       words = spelling_of_all ps;

@@ -5,7 +5,7 @@ use Rattle.std.proofs.lemmas.Bool.{cond_both, cond-true, cond-false}
 use Rattle.std.proofs.lemmas.Bool.Decides.{nat_tests}
 use Rattle.std.proofs.lemmas.List.Elements.{All-append, All-cons, All-contains, All-head, All-nil, All-same, All-tail, Contains-append_right}
 use Rattle.chaos_packet.specs.Packet.{PacketView}
-use Rattle.chaos_link.specs.Bundle.{bytes_for, fit_together}
+use Rattle.chaos_link.specs.Bundle.{bytes_for, fit_within}
 use Rattle.chaos_link.specs.Loads.{AreLoadsOf, AreLongest, EndsBefore, HasOneDestination, IsSmall, joins, loads_from, loads_of, packets_of}
 use Rattle.chaos_link.proofs.Built.{one_fits, together}
 use Rattle.chaos_link.proofs.Bundled.{fit}
@@ -24,16 +24,16 @@ whole (p ∷ ps) = whole_from (p ∷ []) ps
 
 -- ---- each fits
 
-fit_from : (load ps : List PacketView) → fit_together load ≡ true → All IsSmall ps
-    → All (λ l. fit_together l ≡ true) (loads_from load ps)
-fit_from load [] fits small = All-cons (λ l. fit_together l ≡ true) load [] fits (All-nil (λ l. fit_together l ≡ true))
-fit_from load (p ∷ ps) fits small = cond_both (joins load p) _ _ (λ loads. All (λ l. fit_together l ≡ true) loads)
+fit_from : (load ps : List PacketView) → fit_within 1472 load ≡ true → All IsSmall ps
+    → All (λ l. fit_within 1472 l ≡ true) (loads_from load ps)
+fit_from load [] fits small = All-cons (λ l. fit_within 1472 l ≡ true) load [] fits (All-nil (λ l. fit_within 1472 l ≡ true))
+fit_from load (p ∷ ps) fits small = cond_both (joins load p) _ _ (λ loads. All (λ l. fit_within 1472 l ≡ true) loads)
     (λ with_it. fit_from (load ++ p ∷ []) ps (together load p with_it) (All-tail IsSmall p ps small))
-    (λ apart. All-cons (λ l. fit_together l ≡ true) load _ fits
+    (λ apart. All-cons (λ l. fit_within 1472 l ≡ true) load _ fits
     (fit_from (p ∷ []) ps (one_fits p (All-head IsSmall p ps small)) (All-tail IsSmall p ps small)))
 
-pub each_fits : (ps : List PacketView) → All IsSmall ps → All (λ l. fit_together l ≡ true) (loads_of ps)
-each_fits [] small = All-nil (λ l. fit_together l ≡ true)
+pub each_fits : (ps : List PacketView) → All IsSmall ps → All (λ l. fit_within 1472 l ≡ true) (loads_of ps)
+each_fits [] small = All-nil (λ l. fit_within 1472 l ≡ true)
 each_fits (p ∷ ps) small = fit_from (p ∷ []) ps (one_fits p (All-head IsSmall p ps small)) (All-tail IsSmall p ps small)
 
 -- ---- each has one destination
@@ -89,14 +89,14 @@ bytes_of_both [] ys = omega arith
 bytes_of_both (x ∷ xs) ys = omega (arith, bytes_of_both xs ys)
 
 -- a front of packets that fit fits, too
-front_fits : (load : List PacketView) (p : PacketView) (more : List PacketView) → fit_together (load ++ p ∷ more) ≡ true
-    → fit_together (load ++ p ∷ []) ≡ true
+front_fits : (load : List PacketView) (p : PacketView) (more : List PacketView) → fit_within 1472 (load ++ p ∷ more) ≡ true
+    → fit_within 1472 (load ++ p ∷ []) ≡ true
 front_fits load p more h =
-    let parts = fit (load ++ p ∷ more) h in
+    let parts = fit 1472 (load ++ p ∷ more) h in
     let some : length (load ++ p ∷ []) ≡ length load + 1 = length-append load (p ∷ []) in
     let all : length (load ++ p ∷ more) ≡ length load + (length more + 1) =
     length-append load (p ∷ more) ∙ omega arith in
-    let bytes : 4 + bytes_for (load ++ p ∷ []) ≤ 2020 =
+    let bytes : 4 + bytes_for (load ++ p ∷ []) ≤ 1472 =
     omega (arith, parts.bytes, bytes_of_both load (p ∷ more), bytes_of_both load (p ∷ [])) in
     let few : length (load ++ p ∷ []) ≤ 8 = omega (arith, parts.few, some, all) in
     grind (arith, nat_tests)
@@ -105,7 +105,7 @@ in_front : (m : PacketView) (more : List PacketView) → Contains (m ∷ more) m
 in_front m more = (0, omega arith, refl)
 
 front_joins : (first : PacketView) (others : List PacketView) (m : PacketView) (more : List PacketView) (to : ℕ)
-    → fit_together (first ∷ others ++ m ∷ more) ≡ true → All (λ p. p.dst ≡ to) (first ∷ others ++ m ∷ more)
+    → fit_within 1472 (first ∷ others ++ m ∷ more) ≡ true → All (λ p. p.dst ≡ to) (first ∷ others ++ m ∷ more)
     → joins (first ∷ others) m ≡ true
 front_joins first others m more to h one =
     let there : first.dst ≡ to = All-head (λ p. p.dst ≡ to) first _ one in
@@ -120,16 +120,16 @@ abbrev NextIsApart : List PacketView → List PacketView → Type 0
 NextIsApart load [] = Unit {0}
 NextIsApart load (q ∷ qs) = joins load q ≡ false
 
-next_is_apart : (load : List PacketView) (loads : List (List PacketView)) → All (λ l. fit_together l ≡ true) loads
+next_is_apart : (load : List PacketView) (loads : List (List PacketView)) → All (λ l. fit_within 1472 l ≡ true) loads
     → EndsBefore load loads → NextIsApart load (packets_of loads)
 next_is_apart load [] fits ends = tt
 next_is_apart load ([] ∷ loads) fits ends =
-    absurd (omega (arith, (fit [] (All-head (λ l. fit_together l ≡ true) [] loads fits)).some))
+    absurd (omega (arith, (fit 1472 [] (All-head (λ l. fit_within 1472 l ≡ true) [] loads fits)).some))
 next_is_apart load ((p ∷ ps) ∷ loads) fits ends = ends
 
 -- so a load that is begun takes in all that is left of it
 taken_in : (first : PacketView) (others more rest : List PacketView) (to : ℕ)
-    → fit_together (first ∷ others ++ more) ≡ true → All (λ p. p.dst ≡ to) (first ∷ others ++ more)
+    → fit_within 1472 (first ∷ others ++ more) ≡ true → All (λ p. p.dst ≡ to) (first ∷ others ++ more)
     → NextIsApart (first ∷ others ++ more) rest
     → loads_from (first ∷ others) (more ++ rest) ≡ (first ∷ others ++ more) ∷ loads_of rest
 taken_in first others [] [] to fits one apart = ap (λ l. (first ∷ l) ∷ []) (sym (append-nil others))
@@ -139,22 +139,22 @@ taken_in first others [] (q ∷ qs) to fits one apart =
 taken_in first others (m ∷ more) rest to fits one apart =
     let whole_is : (others ++ m ∷ []) ++ more ≡ others ++ m ∷ more = append_assoc others (m ∷ []) more in
     cond-true (joins (first ∷ others) m) _ _ (front_joins first others m more to fits one)
-    ∙ taken_in first (others ++ m ∷ []) more rest to (ap (λ l. fit_together (first ∷ l)) whole_is ∙ fits)
+    ∙ taken_in first (others ++ m ∷ []) more rest to (ap (λ l. fit_within 1472 (first ∷ l)) whole_is ∙ fits)
     (All-same (λ p. p.dst ≡ to) _ (first ∷ others ++ m ∷ more) (ap (λ l. first ∷ l) whole_is) one)
     (subst (λ (l : List PacketView). NextIsApart (first ∷ l) rest) (sym whole_is) apart)
     ∙ ap (λ l. (first ∷ l) ∷ loads_of rest) whole_is
 
-only_from : (loads : List (List PacketView)) → All (λ l. fit_together l ≡ true) loads → All HasOneDestination loads
+only_from : (loads : List (List PacketView)) → All (λ l. fit_within 1472 l ≡ true) loads → All HasOneDestination loads
     → AreLongest loads → loads ≡ loads_of (packets_of loads)
 only_from [] fits one longest = refl
 only_from ([] ∷ loads) fits one longest =
-    absurd (omega (arith, (fit [] (All-head (λ l. fit_together l ≡ true) [] loads fits)).some))
+    absurd (omega (arith, (fit 1472 [] (All-head (λ l. fit_within 1472 l ≡ true) [] loads fits)).some))
 only_from ((p ∷ ps) ∷ loads) fits one longest =
-    let others = All-tail (λ l. fit_together l ≡ true) (p ∷ ps) loads fits in
+    let others = All-tail (λ l. fit_within 1472 l ≡ true) (p ∷ ps) loads fits in
     let to = All-head HasOneDestination (p ∷ ps) loads one in
     ap (λ ls. (p ∷ ps) ∷ ls) (only_from loads others (All-tail HasOneDestination (p ∷ ps) loads one) longest.1)
     ∙ sym
-    (taken_in p [] ps (packets_of loads) to.0 (All-head (λ l. fit_together l ≡ true) (p ∷ ps) loads fits) to.1
+    (taken_in p [] ps (packets_of loads) to.0 (All-head (λ l. fit_within 1472 l ≡ true) (p ∷ ps) loads fits) to.1
     (next_is_apart (p ∷ ps) loads others longest.0))
 
 pub only : (ps : List PacketView) (loads : List (List PacketView)) → AreLoadsOf ps loads → loads ≡ loads_of ps

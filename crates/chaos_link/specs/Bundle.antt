@@ -12,11 +12,14 @@ abbrev pub bytes_for : List PacketView → ℕ
 bytes_for [] = 0
 bytes_for (p ∷ ps) = 2 * (HEADER_WORDS + words_for (length p.body)) + bytes_for ps
 
--- 1 to 8 packets that need 2,020 bytes at most
+-- 1 to 8 packets whose datagram has at most so many bytes
+abbrev pub fit_within : ℕ → List PacketView → Bool
+fit_within most ps =
+    (nat_lt 0 (length ps) && nat_lt (length ps) (MAX_PACKETS + 1)) && not (nat_lt most (MARK_BYTES + bytes_for ps))
+
+-- packets that one datagram can carry
 abbrev pub fit_together : List PacketView → Bool
-fit_together ps =
-    (nat_lt 0 (length ps) && nat_lt (length ps) (MAX_PACKETS + 1))
-    && not (nat_lt MAX_BUNDLE (MARK_BYTES + bytes_for ps))
+fit_together ps = fit_within MAX_BUNDLE ps
 
 -- the words that spell the packets in turn, with zero free halves
 abbrev pub spelling_of_all : List PacketView → List ℕ

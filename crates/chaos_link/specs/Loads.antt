@@ -3,16 +3,16 @@ use Rattle.std.specs.Prelude.{◌≡◌, ℕ, ◌+◌, ◌≤◌, List, [], ◌�
 use Rattle.chaos_packet.specs.Packet.{PacketView}
 use Rattle.chaos_packet.specs.Words.{Spells, spelling_of}
 use Rattle.chaos_packet.specs.declared.limits.TheConstants.{MAX_DATA}
-use Rattle.chaos_link.specs.Bundle.{bytes_for, datagram_of_all, fit_together}
+use Rattle.chaos_link.specs.Bundle.{bytes_for, datagram_of_all, fit_within}
 use Rattle.chaos_link.specs.Datagram.{words_of}
 use Rattle.chaos_link.specs.Packets.{packets_at}
-use Rattle.chaos_link.specs.declared.limits.TheConstants.{MARK_BYTES}
+use Rattle.chaos_link.specs.declared.limits.TheConstants.{MARK_BYTES, MAX_LOAD}
 
--- A load is the packets of one datagram, all to one destination. A packet joins one that is begun, where it goes to the
--- same destination and one datagram can carry them together.
+-- A load is the packets of one datagram that is sent, all to one destination. A packet joins one that is begun, where it
+-- goes to the same destination and the datagram of them all has at most 1,472 bytes.
 abbrev pub joins : List PacketView → PacketView → Bool
 joins [] p = false
-joins (first ∷ others) p = (p.dst == first.dst) && fit_together (first ∷ others ++ p ∷ [])
+joins (first ∷ others) p = (p.dst == first.dst) && fit_within MAX_LOAD (first ∷ others ++ p ∷ [])
 
 -- the load with the packet, where it joins
 abbrev pub joined : List PacketView → PacketView → List PacketView
@@ -54,11 +54,11 @@ abbrev pub AreLongest : List (List PacketView) → Type 0
 AreLongest [] = Unit {0}
 AreLongest (load ∷ loads) = EndsBefore load loads × AreLongest loads
 
--- The loads are the packets in order, each fits a datagram, has one destination and is the longest front of what is
--- left.
+-- The loads are the packets in order; each fits a datagram that is sent, has one destination, and is the longest front of
+-- what is left.
 pub record AreLoadsOf (ps : List PacketView) (loads : List (List PacketView)) : Type 0 where
   pub whole : packets_of loads ≡ ps
-  pub fit : All (λ load. fit_together load ≡ true) loads
+  pub fit : All (λ load. fit_within MAX_LOAD load ≡ true) loads
   pub one : All HasOneDestination loads
   pub longest : AreLongest loads
 
@@ -71,7 +71,7 @@ EachSpelled (p ∷ ps) = Spells p (spelling_of p) × EachSpelled ps
 
 -- The datagram of a load to this destination lies in front of the bytes, and ends there.
 pub record IsBuilt (load : List PacketView) (to end : ℕ) (bytes : List ℕ) : Type 0 where
-  pub fit : fit_together load ≡ true
+  pub fit : fit_within MAX_LOAD load ≡ true
   pub one : All (λ p. p.dst ≡ to) load
   pub spelled : EachSpelled load
   pub size : end ≡ MARK_BYTES + bytes_for load

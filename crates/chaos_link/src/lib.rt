@@ -34,7 +34,8 @@ pub use fault::{LinkFault, PeerFault};
 pub use fuse::FuseLink;
 pub use gone::is_gone;
 pub use limits::{
-    LINK_ROOM, MARK_BYTES, MAX_BUNDLE, MAX_DATAGRAM, MAX_PACKETS, MAX_PEERS, MAX_WAIT, law_limits,
+    LINK_ROOM, MARK_BYTES, MAX_BUNDLE, MAX_DATAGRAM, MAX_LOAD, MAX_PACKETS, MAX_PEERS, MAX_WAIT,
+    law_limits,
 };
 pub use link::{Link, Received, Sent};
 pub use loads::{Load, law_loads};

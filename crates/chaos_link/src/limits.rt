@@ -1,6 +1,6 @@
 //! Sizes and times, each with its unit.
 ghost use Rattle.std.specs.Prelude.{◌≡◌};
-ghost use Rattle.chaos_link.specs.declared.limits.TheConstants.{MARK_BYTES, MAX_DATAGRAM, MAX_PACKETS, MAX_BUNDLE, LINK_ROOM, MAX_PEERS, MAX_WAIT};
+ghost use Rattle.chaos_link.specs.declared.limits.TheConstants.{MARK_BYTES, MAX_DATAGRAM, MAX_PACKETS, MAX_BUNDLE, MAX_LOAD, LINK_ROOM, MAX_PEERS, MAX_WAIT};
 
 /// The bytes of the mark and the version that a datagram begins with.
 pub const MARK_BYTES: usize = 4;
@@ -14,6 +14,10 @@ pub const MAX_PACKETS: usize = 8;
 
 /// The most bytes of a datagram of version 2: the mark and four of the greatest packets.
 pub const MAX_BUNDLE: usize = 2020;
+
+/// The most bytes of a datagram of version 2 that is sent: an Ethernet frame carries 1,500, of
+/// which IP takes 20 and UDP 8. So no such datagram is sent in fragments.
+pub const MAX_LOAD: usize = 1472;
 
 /// The most bytes that a link takes at once, and the bytes that a receive has room for.
 pub const LINK_ROOM: usize = 2048;
@@ -33,6 +37,8 @@ pub fn law_limits()
     // A datagram of version 2 has at most 8 packets and 2,020 bytes.
     ensures packets { MAX_PACKETS ≡ 8 }
     ensures bundle { MAX_BUNDLE ≡ 2020 }
+    // A datagram of version 2 that is sent has at most 1,472 bytes.
+    ensures load { MAX_LOAD ≡ 1472 }
     // A link takes a datagram of at most 2,048 bytes.
     ensures room { LINK_ROOM ≡ 2048 }
     // A link knows at most 32 peers.

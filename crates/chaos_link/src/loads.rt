@@ -1,14 +1,14 @@
 //! Packets that wait, cut into datagrams of version 2.
 ghost use Rattle.std.specs.Prelude.{◌≡◌, ◌≤◌, ◌++◌, ◌∷◌, [], ℕ, List, All, Ok, true, length, take, slice_index};
 ghost use Rattle.chaos_packet.specs.Packet.{PacketView};
-ghost use Rattle.chaos_link.specs.Bundle.{datagram_of_all, fit_together};
+ghost use Rattle.chaos_link.specs.Bundle.{datagram_of_all, fit_within};
 ghost use Rattle.chaos_link.specs.Loads.{AreLoadsOf, AreLongest, HasOneDestination, IsBuilt, IsSmall, joined, joins, loads_of, packets_of};
 ghost use Rattle.chaos_link.specs.Packets.{Carries2, packets_read};
 
 use crate::bundle::bytes_of;
 use crate::datagram::MARK;
 use crate::encode::put_packet;
-use crate::limits::{MARK_BYTES, MAX_BUNDLE, MAX_PACKETS};
+use crate::limits::{MARK_BYTES, MAX_LOAD, MAX_PACKETS};
 use crate::packets::VERSION_TWO;
 use chaos_packet::Packet;
 use std::marker::Model;
@@ -21,11 +21,11 @@ const NUMBER: usize = 3;
 ///
 /// A load lets packets that wait one behind the other go out in as few datagrams as their order
 /// allows. Each packet joins the load before it ([`Load::join`]); otherwise that load is sent and
-/// the packet begins the next ([`Load::begin`]). A load has room of its own for 2,020 bytes, and
+/// the packet begins the next ([`Load::begin`]). A load has room of its own for 1,472 bytes, and
 /// takes no memory.
 #[derive(Drop)]
 pub struct Load {
-    bytes: [u8; MAX_BUNDLE],
+    bytes: [u8; MAX_LOAD],
     /// How many bytes the datagram has so far.
     end: usize,
     /// Where the packets go.
@@ -50,7 +50,7 @@ impl Load {
         // A new load has its one packet.
         ensures { result ≡ packet.now ∷ [] }
     {
-        let mut bytes = [0; MAX_BUNDLE];
+        let mut bytes = [0; MAX_LOAD];
         let end = put_first(packet, &mut bytes);
         Load {
             bytes,
@@ -71,8 +71,8 @@ impl Load {
     /// Adds a packet to the load where the packet joins it, and answers whether it does. No data
     /// byte is looked at for the answer; the data bytes are copied once, by whole words.
     pub fn join(&mut self, packet: &Packet) -> bool
-        // A packet joins a load exactly where it goes to the same destination and one datagram can
-        // carry all of them together.
+        // A packet joins a load exactly where it goes to the same destination and all of them
+        // together are at most 8 packets and 1,472 bytes.
         ensures told { result ≡ joins self.old packet.now }
         // A packet that joins goes behind the others, and a packet that doesn't join changes
         // nothing.
@@ -93,7 +93,7 @@ impl Load {
         if packet.dst != self.to || usize::from(self.bytes[NUMBER]) == MAX_PACKETS {
             return false;
         }
-        self.end + bytes_of(packet) <= MAX_BUNDLE
+        self.end + bytes_of(packet) <= MAX_LOAD
     }
 
     /// The Chaosnet address that the load goes to.
@@ -107,9 +107,9 @@ impl Load {
 
     /// The datagram of the load. Its free halves are zero.
     pub fn datagram(&self) -> &[u8]
-        // The datagram has 2,020 bytes at most, so that a link takes it, and it carries the
-        // packets.
-        ensures fits { length result.now ≤ MAX_BUNDLE }
+        // The datagram has 1,472 bytes at most, so that an Ethernet frame takes it whole, and it
+        // carries the packets.
+        ensures fits { length result.now ≤ MAX_LOAD }
         ensures carried { Carries2 self.now result.now }
 
         // What is read of it is the packets.
@@ -123,7 +123,7 @@ impl Load {
 }
 
 /// Puts the datagram of version 2 of one packet in front, and says where it ends.
-fn put_first(packet: &Packet, buffer: &mut [u8; MAX_BUNDLE]) -> usize
+fn put_first(packet: &Packet, buffer: &mut [u8; MAX_LOAD]) -> usize
     ensures { IsBuilt (packet.now ∷ []) packet.now.dst result buffer.new }
 {
     buffer[..MARK_BYTES].copy_from_slice(&[MARK[0], MARK[1], VERSION_TWO, 1]);
@@ -135,9 +135,10 @@ pub fn law_loads()
     // The loads, one behind the other, are the packets that wait, in their order.
     ensures whole { (ps : List PacketView) → packets_of (loads_of ps) ≡ ps }
 
-    // One datagram can carry each load, where no packet has over 488 data bytes.
+    // Each load is 1 to 8 packets that need at most 1,472 bytes, where no packet has over 488 data
+    // bytes.
     ensures fit { (ps : List PacketView) → All IsSmall ps →
-        All (λ load. fit_together load ≡ true) (loads_of ps) }
+        All (λ load. fit_within MAX_LOAD load ≡ true) (loads_of ps) }
 
     // Each has one destination.
     ensures one { (ps : List PacketView) → All HasOneDestination (loads_of ps) }

@@ -6,13 +6,13 @@ use Rattle.chaos_packet.specs.Packet.{PacketView}
 use Rattle.chaos_link.specs.declared.carriage.Carriage.{Carriage}
 use Rattle.chaos_link.specs.declared.carriage.Carriage.TheVariants.{One, Two}
 use Rattle.chaos_link.specs.declared.fault.LinkFault.{LinkFault}
-use Rattle.chaos_link.specs.Bundle.{datagram_of_all, fit_together}
+use Rattle.chaos_link.specs.Bundle.{datagram_of_all, fit_within}
 use Rattle.chaos_link.specs.Datagram.{Carries, datagram_of}
 use Rattle.chaos_link.specs.Link.{Addressed}
 use Rattle.chaos_link.specs.Loads.{EachSpelled, joins, loads_from, packets_of}
 use Rattle.chaos_link.specs.Packets.{packets_read}
 use Rattle.chaos_link.proofs.Built.{one_fits, together}
-use Rattle.chaos_link.proofs.Bundled.{carried_together, each_behind, spelled_in_turn}
+use Rattle.chaos_link.proofs.Bundled.{carried_together, each_behind, sent_fit, spelled_in_turn}
 use Rattle.chaos_link.proofs.Canon.{carried_spelling}
 use Rattle.chaos_link.proofs.Either.{read_one, read_two}
 use Rattle.chaos_node.specs.Link.{datagram_for, datagram_for_all, datagrams_of, packets_in, read_all, sent_by}
@@ -39,14 +39,14 @@ load_read_so load bytes read exact =
     ∙ append-nil load
 
 -- of the datagram of a load its packets are read
-module _ (load : List PacketView) (fits : fit_together load ≡ true) (each : EachSpelled load) (others : List Addressed)
+module _ (load : List PacketView) (fits : fit_within 1472 load ≡ true) (each : EachSpelled load) (others : List Addressed)
   where
     load_read : read_all (datagram_for_all load ∷ others) ≡ load ++ read_all others
     load_read =
         ap (λ (r : Result (List PacketView) LinkFault). packets_in r ++ read_all others)
-        (read_two load (datagram_of_all load) (carried_together load fits (spelled_in_turn load each)))
+        (read_two load (datagram_of_all load) (carried_together load (sent_fit load fits) (spelled_in_turn load each)))
 
-loads_read : (load ps : List PacketView) → fit_together load ≡ true → EachSpelled load → EachSpelled ps
+loads_read : (load ps : List PacketView) → fit_within 1472 load ≡ true → EachSpelled load → EachSpelled ps
     → read_all (map datagram_for_all (loads_from load ps)) ≡ load ++ ps
 loads_read load [] fits each others = load_read load fits each []
 loads_read load (p ∷ ps) fits each others =

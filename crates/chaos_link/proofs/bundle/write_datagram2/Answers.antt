@@ -17,7 +17,7 @@ put_packet-end-requires c small =
     let here : slice_get ps i ≡ Some p = search (rules, gets) in
     let more = bytes_more ps i p here in
     omega
-    (arith, more, bytes_within (i + 1) ps, (fit ps c.requires.fit).bytes, c.loop-packet.invariant.end, c.loop-packet.invariant.size, c.requires.room)
+    (arith, more, bytes_within (i + 1) ps, (fit 2020 ps c.requires.fit).bytes, c.loop-packet.invariant.end, c.loop-packet.invariant.size, c.requires.room)
 
 pub loop-packet-preserved : goal.loop-packet-preserved
 loop-packet-preserved c =

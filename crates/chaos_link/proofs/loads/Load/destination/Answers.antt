@@ -7,4 +7,4 @@ use Rattle.chaos_link.proofs.loads.Load.destination.Goals as goal
 pub returns-clause-some : goal.returns-clause-some
 returns-clause-some c =
     subst (λ (load : List PacketView). 1 ≤ length load) c.self.view_is
-    (fit (load_in c.self.inside.end c.self.inside.bytes) c.self.invariant.fit).some
+    (fit 1472 (load_in c.self.inside.end c.self.inside.bytes) c.self.invariant.fit).some
