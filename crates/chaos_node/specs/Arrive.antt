@@ -3,10 +3,12 @@ use Rattle.std.specs.Prelude.{◌≡◌, ℕ, List, [], ◌∷◌, Option, Some,
 use Rattle.chaos_packet.specs.Packet.{PacketView}
 use Rattle.chaos_host.specs.declared.answers.HostDelivered.{HostDelivered}
 use Rattle.chaos_host.specs.Deliver.{host_deliver}
+use Rattle.chaos_host.specs.Disposition.{host_with_packet}
 use Rattle.chaos_host.specs.View.{HostView}
 use Rattle.chaos_link.specs.declared.fault.LinkFault.{LinkFault}
 use Rattle.chaos_link.specs.Link.{QueueView, without_first}
 use Rattle.chaos_link.specs.Packets.{packets_read}
+use Rattle.chaos_node.specs.declared.last_packet.LastPacket.{LastPacket}
 use Rattle.chaos_node.specs.Phase.{Effect, no_effect_on, effect_of, over_packets}
 
 -- what comes: the packets of a datagram of either version, or why it carries none; or no datagram
@@ -30,6 +32,11 @@ deliver_effect now p h = effect_of (host_deliver h p now)
 abbrev pub arrive_at_client : Arrival → ℕ → HostView → Effect
 arrive_at_client (Some (Ok packets)) now h = over_packets (deliver_effect now) packets h
 arrive_at_client _ now h = no_effect_on h
+
+-- what the host answered to the last packet that came, where one came: what became of it, with the packet where that is
+-- handed out
+abbrev pub answer_to : LastPacket → Option HostDelivered
+answer_to last = option_map (λ became. host_with_packet became last.packet) last.became
 
 -- what became of the last of these packets; where there is none, what was told before them
 abbrev pub told_after : Option HostDelivered → List PacketView → ℕ → HostView → Option HostDelivered

@@ -4,28 +4,26 @@
 ghost use Rattle.std.specs.Prelude.{◌≡◌, ◌≤◌, ◌↔◌, []};
 ghost use Rattle.chaos_packet.specs.Count.{Rose};
 ghost use Rattle.chaos_link.specs.Link.{Asks};
-ghost use Rattle.chaos_node.specs.Arrive.{told_at_client};
+ghost use Rattle.chaos_node.specs.Arrive.{answer_to, told_at_client};
 ghost use Rattle.chaos_node.specs.InTurn.{TurnDoes};
 ghost use Rattle.chaos_node.specs.Station.{station};
 ghost use Rattle.chaos_node.specs.Turn.{RunsClientTurn, client_phases};
 
 use crate::beginning::begin;
 use crate::end::{TurnEnd, any_of, end_of};
+use crate::last_packet::LastPacket;
 use crate::limits::TURN_ROOM;
 use crate::turn::Turn;
-use chaos_host::{Host, HostDelivered};
+use chaos_host::Host;
 use chaos_link::{Carriage, LINK_ROOM, Link, LinkFault, Packets};
 use chaos_packet::Outbox;
 
 impl<L: Link> Turn<'_, L> {
-    /// Makes a client's turn of what came, and answers whether packets went out. What became of the
-    /// last packet is left in `told`.
-    fn make(
-        &mut self,
-        came: Option<Result<Packets<'_>, LinkFault>>,
-        told: &mut Option<HostDelivered>,
-    ) -> bool
-        ensures told { told.new ≡ told_at_client came.entry self.old.now self.old.host.now }
+    /// Makes a client's turn of what came, and answers whether packets went out. The last packet is
+    /// left in `told`, with what became of it.
+    fn make(&mut self, came: Option<Result<Packets<'_>, LinkFault>>, told: &mut LastPacket) -> bool
+        ensures told { answer_to told.new
+            ≡ told_at_client came.entry self.old.now self.old.host.now }
         ensures phases { TurnDoes self.old self.new
             (client_phases came.entry self.old.now self.old.host.now) result }
     {
@@ -44,8 +42,8 @@ impl<L: Link> Turn<'_, L> {
 /// in front, writes, and releases what ended. Then it sends what these calls put out by
 /// [`send_all`](crate::send_all).
 ///
-/// The turn leaves in `told` what became of the last packet of the datagram, as [`Host::deliver`]
-/// answered it. A client learns from that with which text its request was refused.
+/// The turn reads the packets of the datagram into `told`, one after another, and leaves there the
+/// last, with what became of it. A client learns from that with which text its request was refused.
 ///
 /// By `carriage` packets that are sent at once go each in a datagram of version 1, or several to
 /// one host in a datagram of version 2. What a tick puts out goes one packet to a datagram by
@@ -63,7 +61,7 @@ pub fn client_turn<L: Link>(
     link: &mut L,
     now: u64,
     out: &mut Outbox,
-    told: &mut Option<HostDelivered>,
+    told: &mut LastPacket,
     carriage: Carriage,
     buffer: &mut [u8; LINK_ROOM],
     may_wait: bool,
@@ -80,10 +78,11 @@ pub fn client_turn<L: Link>(
     // and to this address. Between them the link is asked once to receive, and may wait exactly
     // where `may_wait` says so. Unless the link failed, Worked or Idle says whether packets waited,
     // a datagram came or one was sent. What the host answered to the last packet that came is left
-    // in `told`, and none where none came.
+    // in `told`: what became of the packet, and the packet where the host hands it out. `became` is
+    // `None` where no packet came.
     ensures turn { RunsClientTurn (Asks (L.asked link.old) (L.asked link.new)) may_wait carriage now
         (station host.old (L.queue link.old) out.old)
-        (station host.new (L.queue link.new) out.new) result told.new }
+        (station host.new (L.queue link.new) out.new) result (answer_to told.new) }
     // The outbox is empty afterwards.
     ensures outbox { out.new ≡ record { packets = []; cap = out.old.cap } }
 {

@@ -6,10 +6,11 @@ use crate::beginning::begin;
 use crate::client::client_turn;
 use crate::end::{TurnEnd, any_of, end_of};
 use crate::half::Half;
+use crate::last_packet::LastPacket;
 use crate::limits::TURN_ROOM;
 use crate::sending::send_all;
 use crate::turn::Turn;
-use chaos_host::{Host, HostDelivered};
+use chaos_host::Host;
 use chaos_link::{Carriage, LINK_ROOM, Link};
 use chaos_packet::Outbox;
 use std::alloc::{AllocError, Global};
@@ -28,9 +29,8 @@ pub struct Node {
     pub out: Outbox,
     /// In which version of datagrams packets go out.
     pub carriage: Carriage,
-    /// What became of the last packet that came in the last turn, as [`Host::deliver`] answered it,
-    /// where a packet came.
-    pub told: Option<HostDelivered>,
+    /// The last packet that came in the last turn, where one came, and what became of it.
+    pub told: LastPacket,
     /// The buffer into which datagrams are received.
     pub buffer: [u8; LINK_ROOM],
     pub ghost room: { TURN_ROOM ≤ out.cap },
@@ -40,6 +40,7 @@ impl Node {
     ghost use Rattle.std.specs.Prelude.{◌≡◌, ◌↔◌, [], ◌∷◌, None, IfOk};
     ghost use Rattle.chaos_packet.specs.Count.{Rose};
     ghost use Rattle.chaos_link.specs.Link.{Asks};
+    ghost use Rattle.chaos_node.specs.Arrive.{answer_to};
     ghost use Rattle.chaos_node.specs.Halves.{RunsArrival, RunsTicks};
     ghost use Rattle.chaos_node.specs.Link.{SendsLots, has_packets};
     ghost use Rattle.chaos_node.specs.Station.{station};
@@ -56,13 +57,13 @@ impl Node {
         ensures host { IfOk result (λ node. node.host ≡ host) }
         ensures out { IfOk result (λ node. node.out ≡ record { packets = []; cap = TURN_ROOM }) }
         ensures carriage { IfOk result (λ node. node.carriage ≡ carriage) }
-        ensures told { IfOk result (λ node. node.told ≡ None) }
+        ensures told { IfOk result (λ node. answer_to node.told ≡ None) }
     {
         Ok(Node {
             host,
             out: Outbox::new(alloc, TURN_ROOM)?,
             carriage,
-            told: None,
+            told: LastPacket::default(),
             buffer: [0; LINK_ROOM],
         })
     }
@@ -95,7 +96,8 @@ impl Node {
         // none where none came. The link is asked as in a client's turn.
         ensures turn { RunsClientTurn (Asks (L.asked link.old) (L.asked link.new)) may_wait
             self.old.carriage now (station self.old.host (L.queue link.old) self.old.out)
-            (station self.new.host (L.queue link.new) self.new.out) result self.new.told }
+            (station self.new.host (L.queue link.new) self.new.out) result
+            (answer_to self.new.told) }
         // Nothing waits afterwards, and the node has the room and the carriage that it had.
         ensures outbox { self.new.out ≡ record { packets = []; cap = self.old.out.cap } }
         ensures carriage { self.new.carriage ≡ self.old.carriage }
@@ -127,7 +129,8 @@ impl Node {
         // before.
         ensures arrival { RunsArrival (Asks (L.asked link.old) (L.asked link.new)) may_wait
             self.old.carriage now (station self.old.host (L.queue link.old) self.old.out)
-            (station self.new.host (L.queue link.new) self.new.out) result.worked self.new.told }
+            (station self.new.host (L.queue link.new) self.new.out) result.worked
+            (answer_to self.new.told) }
         // Nothing waits afterwards, and the node has the room and the carriage that it had.
         ensures outbox { self.new.out ≡ record { packets = []; cap = self.old.out.cap } }
         ensures carriage { self.new.carriage ≡ self.old.carriage }

@@ -17,9 +17,9 @@ use crate::notes::Notes;
 use crate::script::ask_script;
 use chaos_conn::ConnConfig;
 use chaos_file::MemStore;
-use chaos_host::{Host, HostDelivered};
+use chaos_host::Host;
 use chaos_link::{Carriage, LINK_ROOM, Link};
-use chaos_node::{NodeFault, TURN_ROOM, TurnEnd, client_turn};
+use chaos_node::{LastPacket, NodeFault, TURN_ROOM, TurnEnd, client_turn};
 use chaos_packet::{Outbox, PktNum};
 use chaosd_io::RunFault;
 use file_client::{Client, ClientHost, Contact, Driver, Patience, Route};
@@ -135,7 +135,7 @@ impl<A: Link, B: Link> Driver for LoopDriver<'_, '_, '_, A, B> {
         host: &mut Host,
         now: u64,
         out: &mut Outbox,
-        last_arrival: &mut Option<HostDelivered>,
+        last_arrival: &mut LastPacket,
         carriage: Carriage,
         may_wait: bool,
     ) -> Result<(), NodeFault> {

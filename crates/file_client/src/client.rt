@@ -166,17 +166,16 @@ impl<D: Driver> Client<'_, D> {
         }
         self.host.look(&self.driver)?;
         let host = &mut *self.host;
-        let mut last_arrival = None;
         // Nothing is waited for.
         let end = self.driver.turn(
             &mut host.host,
             host.now,
             &mut host.out,
-            &mut last_arrival,
+            &mut host.last_arrival,
             host.carriage,
             false,
         );
-        host.note(last_arrival);
+        host.note();
         end
     }
 
@@ -309,16 +308,15 @@ impl<D: Driver> Talk for Client<'_, D> {
     {
         self.host.begin_turn(&self.driver)?;
         let host = &mut *self.host;
-        let mut last_arrival = None;
         let end = self.driver.turn(
             &mut host.host,
             host.now,
             &mut host.out,
-            &mut last_arrival,
+            &mut host.last_arrival,
             host.carriage,
             true,
         );
-        host.note(last_arrival);
+        host.note();
         end
     }
 

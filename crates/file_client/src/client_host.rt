@@ -1,5 +1,5 @@
 //! A client's host: one connection after another, and what waits to be sent.
-ghost use Rattle.std.specs.Prelude.{◌≡◌, ◌<◌, ◌⊎◌, ◌↔◌, [], IfErr, IfOk, OnErr, OnOk, is_some, true};
+ghost use Rattle.std.specs.Prelude.{◌≡◌, ◌<◌, ◌⊎◌, ◌↔◌, [], IfErr, IfOk, None, OnErr, OnOk, is_some, true};
 ghost use Rattle.file_copy.specs.Talk.{Turned, counted, taken};
 ghost use Rattle.file_client.specs.Calls.{is_over};
 ghost use Rattle.file_client.specs.Caller.{Receives, ReceivesBehind, Sends, SendsOnce, all_read, asked, asked_again, caller_by, closed, doubled, is_asking, is_late};
@@ -13,9 +13,9 @@ use crate::reply_timer::ReplyTimer;
 use crate::route::Route;
 use chaos_conn::State;
 use chaos_file::Reply;
-use chaos_host::{ConnId, Host, HostDelivered};
+use chaos_host::{ConnId, Host};
 use chaos_link::Carriage;
-use chaos_node::{NodeFault, TURN_ROOM};
+use chaos_node::{LastPacket, NodeFault, TURN_ROOM};
 use chaos_packet::{Opcode, Outbox, PktNum};
 use file_copy::NoReply;
 use std::alloc::Global;
@@ -46,10 +46,13 @@ pub struct ClientHost {
     unanswered: u64,
     /// Since when a reply is waited for, and why none came.
     reply_timer: ReplyTimer,
+    /// The last packet that came in a turn which wasn't noted yet.
+    pub(crate) last_arrival: LastPacket,
 }
 
 impl Model for ClientHost {
     ghost use Rattle.std.specs.Prelude.{◌≡◌};
+    ghost use Rattle.chaos_node.specs.Arrive.{answer_to};
     ghost use Rattle.file_client.specs.ClientHost.{ClientHostView};
     ghost use Rattle.chaos_node.specs.declared.limits.TheConstants.{TURN_ROOM};
 
@@ -71,6 +74,7 @@ impl Model for ClientHost {
           count = c.count;
           since = c.reply_timer.since;
           missing = c.reply_timer.missing;
+          last_arrival = answer_to c.last_arrival;
         } };
 
     ghost invariant = { λ c. c.out.cap ≡ TURN_ROOM };
@@ -115,6 +119,7 @@ impl ClientHost {
             count: 0,
             unanswered: 0,
             reply_timer: ReplyTimer::new(),
+            last_arrival: LastPacket::default(),
         })
     }
 
@@ -271,14 +276,16 @@ impl ClientHost {
         }
     }
 
-    /// A turn was taken, in which this became of the packet that came last.
-    pub(crate) fn note(&mut self, last_arrival: Option<HostDelivered>)
+    /// Notes what became of the packet that came last in a turn, once.
+    pub(crate) fn note(&mut self)
         ensures { self.new
             ≡ record self.old {
-              missing = noted self.old.since self.old.now last_arrival self.old.missing;
+              missing = noted self.old.since self.old.now self.old.last_arrival self.old.missing;
+              last_arrival = None;
             } }
     {
-        self.reply_timer.note(self.now, last_arrival);
+        self.reply_timer.note(self.now, &self.last_arrival);
+        self.last_arrival.became = None;
     }
 
     /// The moment of the last turn, or of the last look at the clock.

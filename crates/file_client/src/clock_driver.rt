@@ -4,9 +4,9 @@ ghost use Rattle.std.specs.Prelude.{◌≡◌, None};
 use crate::driver::Driver;
 use crate::patience::Patience;
 use crate::timing::Timing;
-use chaos_host::{Host, HostDelivered};
+use chaos_host::Host;
 use chaos_link::{Carriage, LINK_ROOM, Link};
-use chaos_node::{NodeFault, ReadableClock, TurnEnd, client_turn};
+use chaos_node::{LastPacket, NodeFault, ReadableClock, TurnEnd, client_turn};
 use chaos_packet::{Outbox, PktNum};
 
 /// A client's driver by a clock, over a link to another process.
@@ -91,7 +91,7 @@ impl<C: ReadableClock, L: Link> Driver for ClockDriver<'_, '_, C, L> {
         host: &mut Host,
         now: u64,
         out: &mut Outbox,
-        last_arrival: &mut Option<HostDelivered>,
+        last_arrival: &mut LastPacket,
         carriage: Carriage,
         may_wait: bool,
     ) -> Result<(), NodeFault> {

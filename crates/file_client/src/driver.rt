@@ -7,9 +7,9 @@ ghost use Rattle.file_client.specs.Pace.{Pace, StoodAt};
 ghost use Rattle.file_client.specs.Turn.{TakesTurn};
 
 use crate::patience::Patience;
-use chaos_host::{Host, HostDelivered};
+use chaos_host::Host;
 use chaos_link::Carriage;
-use chaos_node::{NodeFault, TURN_ROOM};
+use chaos_node::{LastPacket, NodeFault, TURN_ROOM};
 use chaos_packet::{Outbox, PktNum};
 
 /// What drives a client: it takes the turns of the client's host, with all that takes part in them,
@@ -81,8 +81,8 @@ pub trait Driver: Drop {
         ensures { result ≡ (pace (time self.now)).patience };
 
     /// One turn, of the client's host and of all that takes part. What waits in the outbox is sent
-    /// by this carriage, and what became of the last packet that came is left in `last_arrival`. The
-    /// client's own turn may wait for a datagram where `may_wait` allows it, as the pace says.
+    /// by this carriage. The last packet that came is left in `last_arrival`, with what became of it.
+    /// The client's own turn may wait for a datagram where `may_wait` allows it, as the pace says.
     ///
     /// # Errors
     /// `Link` where a link failed in the turn, which went on to its end. `Clock` where
@@ -92,7 +92,7 @@ pub trait Driver: Drop {
         host: &mut Host,
         now: u64,
         out: &mut Outbox,
-        last_arrival: &mut Option<HostDelivered>,
+        last_arrival: &mut LastPacket,
         carriage: Carriage,
         may_wait: bool,
     ) -> Result<(), NodeFault>

@@ -1,9 +1,11 @@
 //! How long a client waits, and why no reply came.
 ghost use Rattle.std.specs.Prelude.{◌≡◌, None};
+ghost use Rattle.chaos_node.specs.Arrive.{answer_to};
 ghost use Rattle.file_client.specs.Missing.{noted, untried, waits_from};
 
-use chaos_conn::Delivered;
-use chaos_host::HostDelivered;
+use chaos_conn::Disposition;
+use chaos_host::HostDisposition;
+use chaos_node::LastPacket;
 use file_copy::NoReply;
 
 /// What a client keeps of its wait for a reply.
@@ -38,21 +40,25 @@ impl ReplyTimer {
         self.missing.waited = 0;
     }
 
-    /// A turn was taken at this moment, in which this became of the packet that came.
-    pub(crate) fn note(&mut self, now: u64, last_arrival: Option<HostDelivered>)
+    /// A turn was taken at this moment, in which this packet came last. The packet is copied only
+    /// where it ended the request or the connection.
+    pub(crate) fn note(&mut self, now: u64, last_arrival: &LastPacket)
         ensures since { self.new.since ≡ self.old.since }
-        ensures missing { self.new.missing ≡ noted self.old.since now last_arrival self.old.missing }
+        ensures missing { self.new.missing
+            ≡ noted self.old.since now (answer_to last_arrival.now) self.old.missing }
     {
         self.missing.waited = now.saturating_sub(self.since);
-        let Some(HostDelivered::At(_, delivered)) = last_arrival else {
+        let Some(HostDisposition::At(_, became)) = last_arrival.became else {
             return;
         };
-        match delivered {
-            Delivered::Opened => self.missing.is_open = true,
-            Delivered::Answered(_)
-            | Delivered::Forwarded(_)
-            | Delivered::Closed(_)
-            | Delivered::Lost(_) => self.missing.end = Some(delivered),
+        match became {
+            Disposition::Opened => self.missing.is_open = true,
+            Disposition::Answered
+            | Disposition::Forwarded
+            | Disposition::Closed
+            | Disposition::Lost => {
+                self.missing.end = Some(became.with_packet(&last_arrival.packet));
+            }
             _ => {}
         }
     }

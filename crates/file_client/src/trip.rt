@@ -7,9 +7,9 @@ use crate::driver::Driver;
 use crate::indices::pass_indices;
 use crate::limits::{LEAST_RETRANSMIT, MOST_RETRANSMIT, TRAIN, TRAINS_OF_A_WINDOW, TRIP_MILLIS};
 use crate::route::Route;
-use chaos_conn::{ConnConfig, Delivered};
-use chaos_host::{Host, HostDelivered};
-use chaos_node::{NodeFault, TURN_ROOM};
+use chaos_conn::{ConnConfig, Disposition};
+use chaos_host::{Host, HostDisposition};
+use chaos_node::{LastPacket, NodeFault, TURN_ROOM};
 use chaos_packet::Outbox;
 use file_copy::MOST_TURNS;
 use std::alloc::Global;
@@ -101,7 +101,7 @@ impl Train {
         ensures empty { OnOk result (out.new.packets ≡ []) }
         ensures room { out.new.cap ≡ out.old.cap }
     {
-        let mut last_arrival = None;
+        let mut last_arrival = LastPacket::default();
         driver.turn(
             host,
             self.latest,
@@ -111,7 +111,7 @@ impl Train {
             may_wait,
         )?;
         self.latest = driver.now()?;
-        if is_answer(&last_arrival) {
+        if is_answer(last_arrival.became) {
             let millis = self.millis();
             let first = match self.trip {
                 Some(trip) => trip.first,
@@ -181,16 +181,16 @@ pub fn round_trip<D: Driver>(
 }
 
 /// Whether the server answered a request, whatever it says.
-fn is_answer(last_arrival: &Option<HostDelivered>) -> bool {
+fn is_answer(became: Option<HostDisposition>) -> bool {
     matches!(
-        last_arrival,
-        Some(HostDelivered::At(
+        became,
+        Some(HostDisposition::At(
             _,
-            Delivered::Closed(_)
-                | Delivered::Answered(_)
-                | Delivered::Forwarded(_)
-                | Delivered::Lost(_)
-                | Delivered::Opened
+            Disposition::Closed
+                | Disposition::Answered
+                | Disposition::Forwarded
+                | Disposition::Lost
+                | Disposition::Opened
         ))
     )
 }

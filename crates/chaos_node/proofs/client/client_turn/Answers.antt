@@ -2,6 +2,7 @@ use Rattle.std.proofs.Common.{rules}
 use Rattle.chaos_packet.specs.Outbox.{OutboxView}
 use Rattle.chaos_host.specs.View.{HostView}
 use Rattle.chaos_link.specs.Link.{Asks}
+use Rattle.chaos_node.specs.Arrive.{answer_to}
 use Rattle.chaos_node.specs.InTurn.{station_of}
 use Rattle.chaos_node.specs.Station.{station}
 use Rattle.chaos_node.specs.Turn.{RunsClientTurn, client_phases}
@@ -18,7 +19,7 @@ returns-clause-turn g c =
     let before = station c.args.host.now (queue c.args.link.now) c.args.out.now in
     left_as
     (λ (h : HostView) l (o : OutboxView). RunsClientTurn (Asks (asked c.args.link.now) (asked l)) c.args.may_wait
-    c.args.carriage c.args.now before (station h (queue l) o) c.end_of.result sent.new.told)
+    c.args.carriage c.args.now before (station h (queue l) o) c.end_of.result (answer_to sent.new.told))
     sent.new.self _ _ _ (search rules) (search rules) (search rules)
     (record {
       came = begun.result.came;

@@ -1,5 +1,5 @@
 use Rattle.std.proofs.Common.{Bool, if◌then◌else◌, Some, None, ap, ◌∙◌, refl, sym}
-use Rattle.chaos_node.specs.Arrive.{deliver_effect}
+use Rattle.chaos_node.specs.Arrive.{answer_to, deliver_effect}
 use Rattle.chaos_node.proofs.InTurn.{takes_more, takes_none}
 use Rattle.chaos_node.proofs.Several.{either_false, either_true, told_more}
 use Rattle.chaos_node.proofs.turn.Turn.deliver_all.Goals as goal
@@ -14,7 +14,7 @@ packets-preserved-then-deliver g c =
     sym c.next_into.ensures.packet
     ∙ ap (λ (b : Bool). if b then Some c.next_into.new.packet else None) c.packets-test.true in (
       rw (← c.packets.invariant.1.1.4)
-          (told_more c.packets.told done.new.told c.packets.packets c.next_into.new.self c.next_into.new.packet
+          (told_more (answer_to c.packets.told) (answer_to done.new.told) c.packets.packets c.next_into.new.self c.next_into.new.packet
           c.packets.self.now c.packets.self.host.now done.new.self.host.now first c.next_into.ensures.rest
           done.ensures.told done.ensures.phase.0.host)
           ∙ c.packets.invariant.0,
@@ -30,7 +30,7 @@ packets-preserved g c =
     sym c.next_into.ensures.packet
     ∙ ap (λ (b : Bool). if b then Some c.next_into.new.packet else None) c.packets-test.true in (
       rw (← c.packets.invariant.1.1.4)
-          (told_more c.packets.told done.new.told c.packets.packets c.next_into.new.self c.next_into.new.packet
+          (told_more (answer_to c.packets.told) (answer_to done.new.told) c.packets.packets c.next_into.new.self c.next_into.new.packet
           c.packets.self.now c.packets.self.host.now done.new.self.host.now first c.next_into.ensures.rest
           done.ensures.told done.ensures.phase.0.host)
           ∙ c.packets.invariant.0,
