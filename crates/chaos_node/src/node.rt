@@ -5,7 +5,6 @@ ghost use Rattle.chaos_node.specs.declared.limits.TheConstants.{TURN_ROOM};
 use crate::beginning::begin;
 use crate::client::client_turn;
 use crate::end::{TurnEnd, any_of, end_of};
-use crate::half::Half;
 use crate::last_packet::LastPacket;
 use crate::limits::TURN_ROOM;
 use crate::sending::send_all;
@@ -31,13 +30,17 @@ pub struct Node {
     pub carriage: Carriage,
     /// The last packet that came in the last turn, where one came, and what became of it.
     pub told: LastPacket,
+    /// The link's count of failures before the last turn by halves.
+    pub failures: u64,
+    /// Whether there was work since then: a packet waited, a datagram came, or a packet was sent.
+    pub worked: bool,
     /// The buffer into which datagrams are received.
     pub buffer: [u8; LINK_ROOM],
     pub ghost room: { TURN_ROOM ≤ out.cap },
 }
 
 impl Node {
-    ghost use Rattle.std.specs.Prelude.{◌≡◌, ◌↔◌, [], ◌∷◌, None, IfOk};
+    ghost use Rattle.std.specs.Prelude.{◌≡◌, ◌↔◌, [], ◌∷◌, None, IfOk, true, false, if◌then◌else◌};
     ghost use Rattle.chaos_packet.specs.Count.{Rose};
     ghost use Rattle.chaos_link.specs.Link.{Asks};
     ghost use Rattle.chaos_node.specs.Arrive.{answer_to};
@@ -53,22 +56,26 @@ impl Node {
     /// No memory for the outbox.
     pub fn new(alloc: Global, host: Host, carriage: Carriage) -> Result<Self, AllocError>
         // A node is made of this host and this carriage. Nothing waits, there is room for a turn,
-        // and no answer to a packet is there.
+        // and no answer to a packet is there. No turn was begun.
         ensures host { IfOk result (λ node. node.host ≡ host) }
         ensures out { IfOk result (λ node. node.out ≡ record { packets = []; cap = TURN_ROOM }) }
         ensures carriage { IfOk result (λ node. node.carriage ≡ carriage) }
         ensures told { IfOk result (λ node. answer_to node.told ≡ None) }
+        ensures half { IfOk result (λ node. (node.failures ≡ 0) × (node.worked ≡ false)) }
     {
         Ok(Node {
             host,
             out: Outbox::new(alloc, TURN_ROOM)?,
             carriage,
             told: LastPacket::default(),
+            failures: 0,
+            worked: false,
             buffer: [0; LINK_ROOM],
         })
     }
 
-    /// Sends all that waits, the oldest first, and answers whether anything waited.
+    /// Sends all that waits, the oldest first, and answers whether anything waited. Between the
+    /// halves of a turn, that is work of the turn.
     pub fn send<L: Link>(&mut self, link: &mut L) -> bool
         // All that waits goes out by the node's carriage, each packet to its destination. Any link
         // is asked just this, whatever the link answers.
@@ -76,13 +83,17 @@ impl Node {
             (L.queue link.old) (self.old.out.packets ∷ []) (L.queue link.new) }
         // Nothing waits afterwards.
         ensures outbox { self.new.out ≡ record { packets = []; cap = self.old.out.cap } }
-        // The answer is whether anything waited.
+        // The answer is whether anything waited, and is noted as work.
         ensures told { result ≡ has_packets (self.old.out.packets ∷ []) }
-        // The node's host and carriage are as they were.
+        ensures worked { self.new.worked ≡ (if self.old.worked then true else result) }
+        // The node's host, carriage and count of failures are as they were.
         ensures host { self.new.host ≡ self.old.host }
         ensures carriage { self.new.carriage ≡ self.old.carriage }
+        ensures failures { self.new.failures ≡ self.old.failures }
     {
-        send_all(link, &mut self.out, self.carriage)
+        let waited = send_all(link, &mut self.out, self.carriage);
+        self.worked = self.worked || waited;
+        waited
     }
 
     /// One turn of the host: [`client_turn`](crate::client_turn) over what the node has.
@@ -119,17 +130,17 @@ impl Node {
     ///
     /// Then the node's owner serves: it makes the host's own calls, sends what these put out by
     /// [`Node::send`], and ends the turn by [`Node::tick`].
-    pub fn receive<L: Link>(&mut self, link: &mut L, now: u64, may_wait: bool) -> Half
-        // The link's count of failures before the turn is reported.
-        ensures failures { result.failures ≡ L.count link.old }
+    pub fn receive<L: Link>(&mut self, link: &mut L, now: u64, may_wait: bool)
+        // The link's count of failures before the turn is noted.
+        ensures failures { self.new.failures ≡ L.count link.old }
         // What waits is sent, then the link is asked once to receive, for which it may wait exactly
         // where `may_wait` says so, and what came is delivered. Any link is asked just this, and to
-        // send what the delivery puts out. Whether there was work is reported. What became of the
-        // last packet is left in the node, and none where none came. The host has as many slots as
+        // send what the delivery puts out. Whether there was work is noted. What became of the last
+        // packet is left in the node, and none where none came. The host has as many slots as
         // before.
         ensures arrival { RunsArrival (Asks (L.asked link.old) (L.asked link.new)) may_wait
             self.old.carriage now (station self.old.host (L.queue link.old) self.old.out)
-            (station self.new.host (L.queue link.new) self.new.out) result.worked
+            (station self.new.host (L.queue link.new) self.new.out) self.new.worked
             (answer_to self.new.told) }
         // Nothing waits afterwards, and the node has the room and the carriage that it had.
         ensures outbox { self.new.out ≡ record { packets = []; cap = self.old.out.cap } }
@@ -145,24 +156,23 @@ impl Node {
             now,
         };
         let sent = turn.arrive(begun.came, &mut self.told);
-        Half {
-            failures: begun.failures,
-            worked: begun.worked || sent,
-        }
+        self.failures = begun.failures;
+        self.worked = begun.worked || sent;
     }
 
     /// The second half of a turn: sends what waits, ticks each slot, and answers how the turn
     /// ended.
-    pub fn tick<L: Link>(&mut self, link: &mut L, now: u64, half: Half) -> TurnEnd
+    pub fn tick<L: Link>(&mut self, link: &mut L, now: u64) -> TurnEnd
         // The answer is LinkFault exactly where the link's count of failures rose since the count
-        // in `half`, or stands at its greatest.
-        ensures fault { (result ≡ TurnEnd.LinkFault) ↔ Rose half.failures (L.count link.new) }
+        // that the first half noted, or stands at its greatest.
+        ensures fault { (result ≡ TurnEnd.LinkFault)
+            ↔ Rose self.old.failures (L.count link.new) }
         // What waits is sent, then each slot is ticked, and the link is asked for nothing else.
-        // Unless the link failed, Worked or Idle says whether there was work in either half. The
-        // host has as many slots as before.
+        // Unless the link failed, Worked or Idle says whether there was work in either half or
+        // between them. The host has as many slots as before.
         ensures ticks { RunsTicks (Asks (L.asked link.old) (L.asked link.new)) self.old.carriage now
             (station self.old.host (L.queue link.old) self.old.out)
-            (station self.new.host (L.queue link.new) self.new.out) half.worked result }
+            (station self.new.host (L.queue link.new) self.new.out) self.old.worked result }
         // The answer to the last packet that came stays.
         ensures told { self.new.told ≡ self.old.told }
         // Nothing waits afterwards, and the node has the room and the carriage that it had.
@@ -180,6 +190,6 @@ impl Node {
         };
         let ticked = turn.tick_slots();
         let sent = any_of(waited, ticked, false);
-        end_of(half.failures, turn.link.failures(), half.worked, sent)
+        end_of(self.failures, turn.link.failures(), self.worked, sent)
     }
 }

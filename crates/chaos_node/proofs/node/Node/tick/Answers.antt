@@ -19,9 +19,9 @@ returns-clause-ticks g c =
     let before = station node.host (queue c.args.link.now) node.out in
     left_as
     (λ (h : HostView) l (o : OutboxView). RunsTicks (Asks (asked c.args.link.now) (asked l)) node.carriage c.args.now before
-    (station h (queue l) o) c.args.half.worked c.end_of.result)
+    (station h (queue l) o) node.worked c.end_of.result)
     ticked.new.self _ _ _ (search rules) (search rules) (search rules)
     (ticks_so node.carriage c.args.now before (station_of ticked.new.self)
-    (queue waited.new.link) waited.new.out c.args.half.worked waited.result ticked.result c.any_of-sent.result
+    (queue waited.new.link) waited.new.out node.worked waited.result ticked.result c.any_of-sent.result
     c.end_of.result waited.ensures.sends waited.ensures.told
     ticked.ensures.0 c.any_of-sent.ensures c.end_of.ensures.work)
