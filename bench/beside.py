@@ -1,11 +1,11 @@
 #!/usr/bin/env python3
 """Times the libraries beside the same in plain Rust: `python3 bench/beside.py` for all benches, or with their names.
 
-Each bench is two programs that print the same lines, `what operations nanoseconds`, and where they have one what all came to,
-which has to be the same: bench/NAME.rt.in over copies of the crates,
-proved and built by rt (another by RT=..) in a folder of its own, and bench/plain_NAME.rs, built by rustc. Both are run ten times,
-in turn, and each figure is the least. Where valgrind or perf is there, the instructions of a whole run are counted too, which
-don't vary with what else the machine does. It takes some minutes, most of them for the proofs.
+Each bench is programs that print the same lines, `what operations nanoseconds`, and where they have one what all came to, which has to
+be the same: bench/NAME.rt.in over copies of the crates, proved and built by rt (another by RT=..) in a folder of its own, and
+bench/plain_NAME.rs, built by rustc, with a second rival for some. All are run ten times, in turn, and each figure is the least. Where
+valgrind or perf is there, the instructions of a whole run are counted too, which don't vary with what else the machine does. It takes
+some minutes, most of them for the proofs.
 """
 
 import os
@@ -30,6 +30,9 @@ BENCHES = {
     "file": ["chaos_file"],
     "turn": ["file_server", "chaos_node", "chaos_file", "chaos_host", "chaos_conn", "chaos_link", "chaos_packet", "arrayvec"],
 }
+
+# the rivals of a bench that has more than one: what a line of each says behind its name
+RIVALS = {"turn": {"turn": "", "turn_2": ", beside no walks"}}
 
 
 def lines_of_crates():
@@ -99,14 +102,14 @@ def instructions(command, script=b""):
     return int(told[1]) if told else None
 
 
-def count_both(name, programs):
+def count_both(name, ours, plain, behind=""):
     """Prints what both programs take in instructions, or that none were counted."""
-    ours, plain = (instructions([programs[kind]]) for kind in ("chaos", "plain"))
+    ours, plain = instructions([ours]), instructions([plain])
     if ours is None or plain is None:
         print(f"{name}: instructions aren't counted: neither valgrind nor perf can here", flush=True)
         return
     both = f"{ours / 1e6:.0f} million instructions, plain Rust {plain / 1e6:.0f} million"
-    print(f"{name}: the whole run: {both}, ratio {ours / plain:.2f}", flush=True)
+    print(f"{name}: the whole run{behind}: {both}, ratio {ours / plain:.2f}", flush=True)
 
 
 def count_each(name, commands, scripts, count, unit):
@@ -121,20 +124,24 @@ def count_each(name, commands, scripts, count, unit):
 
 
 def bench(name):
-    """Runs both programs in turn, and prints a line for each figure."""
+    """Runs all programs in turn, and prints a line for each figure and rival."""
+    rivals = RIVALS.get(name, {name: ""})
     with tempfile.TemporaryDirectory() as folder:
-        programs = {"chaos": build_proved(name, folder), "plain": build_plain(name, folder)}
+        programs = {"chaos": build_proved(name, folder)} | {rival: build_plain(rival, folder) for rival in rivals}
         best = {}
         for _ in range(RUNS):
             for kind, program in programs.items():
                 for key, spent in figures(program).items():
                     best[kind, key] = min(best.get((kind, key), spent), spent)
         keys = [key for kind, key in best if kind == "chaos"]
-        assert all(("plain", key) in best for key in keys), f"{name}: the programs disagree: {sorted(best)}"
-        for key in keys:
-            ours, plain = best["chaos", key], best["plain", key]
-            print(f"{name}: {key[0].replace('_', ' ')}: {ours:.1f} ns, plain Rust {plain:.1f} ns, ratio {ours / plain:.2f}", flush=True)
-        count_both(name, programs)
+        agree = all((rival, key) in best for rival in rivals for key in keys)
+        assert agree, f"{name}: the programs disagree: {sorted(best)}"
+        for rival, behind in rivals.items():
+            for key in keys:
+                ours, plain = best["chaos", key], best[rival, key]
+                what = key[0].replace("_", " ") + behind
+                print(f"{name}: {what}: {ours:.1f} ns, plain Rust {plain:.1f} ns, ratio {ours / plain:.2f}", flush=True)
+            count_both(name, programs["chaos"], programs[rival], behind)
 
 
 def main():

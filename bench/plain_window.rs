@@ -2,6 +2,7 @@
 //! whether its item is held, so that a body is copied once and nothing else is written.
 //!
 //! It has one window, its greatest, and can neither announce another nor tell a receipt.
+use std::hint::black_box;
 use std::time::Instant;
 
 const WINDOW: u16 = 64;
@@ -103,7 +104,8 @@ fn fills(window: &mut Window, bytes: &mut [u8; 448], from_end: bool) -> (u32, u3
     let (mut took, mut sum) = (0u32, 0u32);
     for fill in 0..FILLS {
         bytes[0] = (fill % 256) as u8;
-        let length = 441 + (fill % 8) as usize;
+        // A length that the compiler doesn't know, as there.
+        let length = black_box(448);
         for step in 0..WINDOW {
             let offset = if from_end { WINDOW - step } else { step + 1 };
             took = took.wrapping_add(arrives(window, offset, &bytes[..length]));

@@ -4,9 +4,9 @@
     bench/speed.py              runs the benches, keeps what they print in out/bench.log, and writes the tables
     bench/speed.py --from LOG   writes the tables from what an earlier run kept
 
-A row of a table is a line of a bench. At the end stand the rows that miss their aim; docs/SPEED.md has them too, each with its
-reason where one is known.
-A row whose bench printed no such line is a fault: then the document stays as it was, and the status is 1.
+A row of a table is a line of a bench; some benches print whole tables, between the marks that the document has. At the end stand the
+rows that miss their aim; docs/SPEED.md has them too, each with its reason where one is known.
+A row or a table that no bench printed is a fault: then the document stays as it was, and the status is 1.
 """
 
 import dataclasses
@@ -23,12 +23,17 @@ DOCUMENT = ROOT / "docs/SPEED.md"
 LOG = ROOT / "out/bench.log"
 
 # benches of the program, each a script, and those of libraries, which bench/beside.py has
-OF_PROGRAM = ["show", "lab", "loop", "copy", "calls", "stack"]
+OF_PROGRAM = ["lines", "copies", "calls", "show", "lab", "loop", "stack"]
 OF_LIBRARIES = ["codec", "links", "window", "host", "file", "turn"]
 
-# what a line of a bench may compare: `NAME: OURS, plain Rust THEIRS, ratio RATIO`, or with loss and without
-TIME = r"(?P<{}>[\d.]+ (?:ns|us|ms|s))(?: a \w+)?(?:, [\d.]+ MB/s)?"
-TIMED = re.compile(rf"(?P<name>.+?): (?:chaosd )?{TIME.format('ours')}, (?:plain Rust|without loss) {TIME.format('theirs')}, ratio (?P<ratio>[\d.]+)")
+# the tables that benches print whole
+PRINTED = ["lines", "copies", "calls"]
+# how the line of a row begins that misses its aim, of such a table
+MISSED = "missed: "
+
+# what a line of a bench compares: `NAME: OURS, plain Rust THEIRS, ratio RATIO`
+TIME = r"(?P<{}>[\d.]+ (?:ns|us|ms|s))(?: a \w+)?"
+TIMED = re.compile(rf"(?P<name>.+?): (?:chaosd )?{TIME.format('ours')}, plain Rust {TIME.format('theirs')}, ratio (?P<ratio>[\d.]+)")
 COUNTED = re.compile(r"(?P<name>.+): (?:chaosd )?\d+ .*instructions.*, plain Rust .*, ratio (?P<ratio>[\d.]+)")
 
 
@@ -53,18 +58,11 @@ LIBRARIES = {
             "The copying loop's jump crosses 32 bytes of code, which Skylake decodes anew each time.",
         ),
         Row(
-            "read by value",
-            "codec: decode of 448 bytes",
-            1.3,
-            why="488 bytes are moved through two results.",
-        ),
-        Row(
             "written into a lent buffer",
             "codec: encode of 448 bytes in place",
             1.1,
             why="The header is stored byte by byte: 16 stores for plain Rust's 4.",
         ),
-        Row("written and handed out by value", "codec: encode of 448 bytes"),
     ],
     "links": [
         Row("a round trip of 508 bytes over two UDP links", "links: round trip of 508 bytes", 1.2, "links: the whole run"),
@@ -113,7 +111,9 @@ LIBRARIES = {
             1.3,
             why="A turn makes three walks over the slots in use, and the plain version three over all slots.",
         ),
+        Row("the same, beside plain Rust that walks over none", "turn: turn of 1 connection and 254 free slots, beside no walks"),
         Row("255 connections", "turn: turn of 255 connections", 1.3, why="A walk goes over 224 bytes of each connection."),
+        Row("the same, beside plain Rust that walks over none", "turn: turn of 255 connections, beside no walks"),
     ],
 }
 PROGRAM = {
@@ -150,51 +150,42 @@ PROGRAM = {
         ),
     ],
 }
-FILES = {
-    "copy": [
-        Row("a put of 1 MiB on loopback, with its flush", "put, loopback", 1.2),
-        Row("a get", "get, loopback", 1.2),
-        Row("a put, each datagram 20 ms late, 13 commands in flight", "put, 20 ms each way, 13 commands in flight"),
-        Row("a get", "get, 20 ms each way, 13 commands in flight"),
-    ],
-}
-LOSSES = {
-    "copy": [
-        Row("a put of 1 MiB, 5 ms each way", "put, 1% lost, 5 ms each way", 3),
-        Row("a get", "get, 1% lost, 5 ms each way", 3),
-        Row("a put of 1 MiB, 20 ms each way", "put, 1% lost, 20 ms each way", 3),
-        Row("a get", "get, 1% lost, 20 ms each way", 3),
-    ],
-}
-TABLES = {"libraries": LIBRARIES, "program": PROGRAM, "files": FILES, "losses": LOSSES}
-# what the times of a table are of
-PAIRS = {"losses": "with 1% lost/without loss"}
+TABLES = {"libraries": LIBRARIES, "program": PROGRAM}
 
 
 @dataclasses.dataclass
 class Figures:
-    """What the benches told: by a line's name both times and their ratio, and the ratio of instructions."""
+    """What the benches told: by a line's name both times and their ratio, and the ratio of instructions; the tables that they printed
+    whole, and what misses its aim there."""
 
     timed: dict
     counted: dict
+    printed: dict
+    missed: list
 
 
-def joined(lines):
-    """The lines, and beside them one for each pair that a bench tells in two: `NAME: chaosd 7.63 s` and `NAME: plain 7.58 s`."""
-    alone = re.compile(r"(?P<name>.+): (?P<program>chaosd|plain) (?P<spent>[\d.]+) s$")
-    seen = {}
-    for line in lines:
-        if found := alone.match(line):
-            seen[found["name"], found["program"]] = float(found["spent"])
-    pairs = [(name, spent, seen[name, "plain"]) for (name, program), spent in seen.items() if program == "chaosd" and (name, "plain") in seen]
-    return [*lines, *[f"{name}: chaosd {ours:.2f} s, plain Rust {plain:.2f} s, ratio {ours / plain:.2f}" for name, ours, plain in pairs]]
+def marks_of(name):
+    """What stands before a table of the document, and behind it."""
+    return f"<!-- {name}: written by make bench -->\n", f"<!-- end of {name} -->"
+
+
+def printed_in(text):
+    """The tables that benches printed whole, by their names."""
+    printed = {}
+    for name in PRINTED:
+        begin, end = marks_of(name)
+        if begin in text and end in text:
+            printed[name] = text.split(begin)[1].split(end)[0].rstrip("\n")
+    return printed
 
 
 def figures_of(text):
     """Reads what the benches printed."""
-    figures = Figures({}, {})
-    for line in joined(text.splitlines()):
-        if found := TIMED.match(line):
+    figures = Figures({}, {}, printed_in(text), [])
+    for line in text.splitlines():
+        if line.startswith(MISSED):
+            figures.missed.append(line.removeprefix(MISSED))
+        elif found := TIMED.match(line):
             figures.timed[found["name"]] = (found["ours"], found["theirs"], float(found["ratio"]))
         elif found := COUNTED.match(line):
             figures.counted[found["name"]] = float(found["ratio"])
@@ -202,9 +193,9 @@ def figures_of(text):
 
 
 def faults_of(figures):
-    """The rows of which no bench told a line."""
+    """The rows and tables that no bench printed."""
     rows = [row for table in TABLES.values() for of_bench in table.values() for row in of_bench]
-    return [row.line for row in rows if row.line not in figures.timed]
+    return [row.line for row in rows if row.line not in figures.timed] + [name for name in PRINTED if name not in figures.printed]
 
 
 def both(ours, theirs):
@@ -217,9 +208,9 @@ def both(ours, theirs):
     return f"{number}/{other:.{len(number.partition('.')[2])}f} {unit}"
 
 
-def table_of(benches, figures, pair="here/plain Rust"):
+def table_of(benches, figures):
     """A table of these rows, as a document has it."""
-    lines = [f"What|{pair}|ratio|aim|instructions|`make bench-`", "---|---|---|---|---|---"]
+    lines = ["What|here/plain Rust|ratio|aim|instructions|`make bench-`", "---|---|---|---|---|---"]
     for bench, rows in benches.items():
         for row in rows:
             ours, theirs, ratio = figures.timed[row.line]
@@ -231,7 +222,7 @@ def table_of(benches, figures, pair="here/plain Rust"):
 
 def missed(figures):
     """The rows that miss their aim, each as a line."""
-    lines = []
+    lines = [f"- {line}" for line in figures.missed]
     for benches in TABLES.values():
         for bench, rows in benches.items():
             for row in rows:
@@ -243,10 +234,10 @@ def missed(figures):
 
 def written(text, figures):
     """The document with its tables as the figures have them."""
-    parts = {name: table_of(benches, figures, PAIRS.get(name, "here/plain Rust")) for name, benches in TABLES.items()}
+    parts = {name: table_of(benches, figures) for name, benches in TABLES.items()} | figures.printed
     parts["missed"] = missed(figures)
     for name, part in parts.items():
-        begin, end = f"<!-- {name}: written by make bench -->\n", f"<!-- end of {name} -->"
+        begin, end = marks_of(name)
         if text.count(begin) != 1 or text.count(end) != 1:
             raise ValueError(f"{DOCUMENT.name} has no place for {name}")
         before, rest = text.split(begin)

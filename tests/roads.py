@@ -103,7 +103,7 @@ class Again(Case):
 
 
 class Losing(Case):
-    """Roads that lose one datagram in a hundred. `make bench-copy` times them."""
+    """Roads that lose one datagram in a hundred. `make bench-lines` times them."""
 
     seconds = 60
 

@@ -10,16 +10,16 @@ SPEC = importlib.util.spec_from_file_location("speed", ROOT / "bench/speed.py")
 speed = importlib.util.module_from_spec(SPEC)
 SPEC.loader.exec_module(speed)
 
-PLACES = "".join(f"<!-- {name}: written by make bench -->\nold\n<!-- end of {name} -->\n" for name in [*speed.TABLES, "missed"])
+NAMES = [*speed.TABLES, *speed.PRINTED, "missed"]
+PLACES = "".join(f"<!-- {name}: written by make bench -->\nold\n<!-- end of {name} -->\n" for name in NAMES)
+PRINTED = "<!-- {0}: written by make bench -->\nput/get|{0}\n---|---\ncurl|1.2/1.3\n<!-- end of {0} -->"
 
 
 def told(ratio):
-    """Lines of all benches, whose rows all have this ratio."""
+    """Lines of all benches, whose rows all have this ratio, and the tables that they print whole."""
     rows = [row.line for table in speed.TABLES.values() for rows in table.values() for row in rows]
-    lossy, late = [line for line in rows if "lost" in line], [line for line in rows if "in flight" in line]
-    lines = [f"{line}: chaosd 12.0 ns, plain Rust 10.0 ns, ratio {ratio:.2f} (wish: 1.1)" for line in rows if line not in [*lossy, *late]]
-    lines += [f"{line}: chaosd 3.20 s, without loss 1.60 s, ratio 2.00 (wish: 3)" for line in lossy]
-    lines += [f"{line}: {program} {spent} s" for line in late for program, spent in [("chaosd", "7.63"), ("plain", "7.58")]]
+    lines = [f"{line}: chaosd 12.0 ns, plain Rust 10.0 ns, ratio {ratio:.2f} (wish: 1.1)" for line in rows]
+    lines += [PRINTED.format(name) for name in speed.PRINTED]
     return "\n".join([*lines, "codec: the whole run: 148 million instructions, plain Rust 100 million, ratio 1.48"])
 
 
@@ -27,16 +27,21 @@ class Speed(Checking):
     def test_each_row_stands_in_its_table(self):
         text = speed.written(PLACES, speed.figures_of(told(1.05)))
         self.assertNotIn("old", text)
-        self.assertIn("read by value|12.0/10.0 ns|1.05|1.3||`codec`\n", text)
-        self.assertIn("What|with 1% lost/without loss|ratio|aim", text)
-        self.assertIn("a put of 1 MiB, 20 ms each way|3.20/1.60 s|2.00|3||`copy`\n", text)
-        self.assertIn("a put, each datagram 20 ms late, 13 commands in flight|7.63/7.58 s|1.01|||`copy`\n", text)
+        self.assertIn("written into a lent buffer|12.0/10.0 ns|1.05|1.1||`codec`\n", text)
+        self.assertIn("<!-- lines: written by make bench -->\nput/get|lines\n---|---\ncurl|1.2/1.3\n<!-- end of lines -->\n", text)
         self.assertIn("kept|12.0/10.0 ns|1.05|1.1|1.48|`codec`\n", text)
 
     def test_a_row_that_misses_its_aim_is_named(self):
         self.assertEqual(speed.missed(speed.figures_of(told(1.05))), "No row misses its aim.")
         lines = speed.missed(speed.figures_of(told(1.6))).splitlines()
         self.assertIn("- `links`, a round trip of 508 bytes over two UDP links: 1.60, aim 1.2.", lines)
+
+    def test_what_misses_its_aim_in_a_printed_table_is_named(self):
+        lines = "missed: `copies`, a put of 1 MiB beside curl: 1.20, aim 1.0.\n" + told(1.05)
+        self.assertEqual(speed.missed(speed.figures_of(lines)), "- `copies`, a put of 1 MiB beside curl: 1.20, aim 1.0.")
+
+    def test_a_table_that_is_not_printed_is_a_fault(self):
+        self.assertEqual(speed.faults_of(speed.figures_of(told(1.05).replace("<!-- end of calls -->", ""))), ["calls"])
 
     def test_a_row_without_a_line_is_a_fault(self):
         short = "\n".join(line for line in told(1.05).splitlines() if not line.startswith("links"))

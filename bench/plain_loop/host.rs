@@ -6,9 +6,12 @@ const DOWN: u64 = 90_000;
 const WINDOW: u16 = 13;
 const PLACES: usize = WINDOW as usize;
 const MARK: [u8; 4] = [0x43, 0x48, 1, 0];
-const HEADER_END: usize = 20;
 pub const MOST_DATA: usize = 488;
 pub const MOST_DATAGRAM: usize = 508;
+/// The bytes of a datagram of version 2, and how many packets one has at most.
+const MOST_BUNDLE: usize = 2020;
+const MOST_PACKETS: u8 = 8;
+const PACKET_HEADER: usize = 16;
 
 const RFC: u8 = 0o1;
 const OPN: u8 = 0o2;
@@ -110,14 +113,66 @@ impl<'a> Packet<'a> {
         Some(Packet { op: header[0], dst, dst_index, src, src_index, num, ack, body: &words[..count] })
     }
 
-    /// Writes the packet's datagram to the front of the place, and says where it ends.
+    /// Hands on each packet of a datagram of either version.
+    #[inline]
+    pub fn each(bytes: &mut [u8], mut take: impl FnMut(&Packet)) {
+        if bytes.starts_with(&MARK) {
+            if let Some(packet) = Packet::read(bytes) {
+                take(&packet);
+            }
+        } else if Packet::is_bundle(bytes) {
+            Packet::each_of_bundle(&mut bytes[MARK.len()..], take);
+        }
+    }
+
+    /// Whether it is a datagram of version 2: one with a fault carries none, so all are looked through first.
+    fn is_bundle(bytes: &[u8]) -> bool {
+        let [0x43, 0x48, 2, count @ 1..=MOST_PACKETS, words @ ..] = bytes else { return false };
+        let mut rest = words;
+        for _ in 0..*count {
+            let Some([_, _, high, low, ..]) = rest.first_chunk::<PACKET_HEADER>() else { return false };
+            let count = usize::from(u16::from_be_bytes([*high, *low]) & 0xFFF);
+            let end = PACKET_HEADER + count.next_multiple_of(2);
+            if count > MOST_DATA || rest.len() < end {
+                return false;
+            }
+            rest = &rest[end..];
+        }
+        rest.is_empty()
+    }
+
+    fn each_of_bundle(mut rest: &mut [u8], mut take: impl FnMut(&Packet)) {
+        while let Some((header, words)) = rest.split_first_chunk_mut::<PACKET_HEADER>() {
+            let word = |n: usize| u16::from_be_bytes([header[2 * n], header[2 * n + 1]]);
+            let count = usize::from(word(1) & 0xFFF);
+            let [dst, dst_index, src, src_index, num, ack] = [2, 3, 4, 5, 6, 7].map(word);
+            let (words, others) = words.split_at_mut(count.next_multiple_of(2));
+            swap_pairs(words);
+            take(&Packet { op: header[0], dst, dst_index, src, src_index, num, ack, body: &words[..count] });
+            rest = others;
+        }
+    }
+
+    /// The bytes that the packet takes in a datagram.
+    fn room(&self) -> usize {
+        PACKET_HEADER + self.body.len().next_multiple_of(2)
+    }
+
+    /// Writes the packet's datagram of version 1 to the front of the place, and says where it ends.
     pub fn write(&self, place: &mut [u8; MOST_DATAGRAM]) -> usize {
+        place[..MARK.len()].copy_from_slice(&MARK);
+        self.write_words(&mut place[MARK.len()..]);
+        MARK.len() + self.room()
+    }
+
+    /// Writes the packet's words to the front of the place.
+    #[inline]
+    fn write_words(&self, place: &mut [u8]) {
         let count = self.body.len();
         let words =
             [u16::from(self.op) << 8, count as u16, self.dst, self.dst_index, self.src, self.src_index, self.num, self.ack];
-        let (header, rest) = place.split_at_mut(HEADER_END);
-        header[..MARK.len()].copy_from_slice(&MARK);
-        for (to, word) in header[MARK.len()..].chunks_exact_mut(2).zip(words) {
+        let (header, rest) = place.split_at_mut(PACKET_HEADER);
+        for (to, word) in header.chunks_exact_mut(2).zip(words) {
             to.copy_from_slice(&word.to_be_bytes());
         }
         copy_swapped(rest, self.body);
@@ -125,7 +180,6 @@ impl<'a> Packet<'a> {
         if let [last] = self.body.chunks_exact(2).remainder() {
             rest[even - 2..even].copy_from_slice(&[0, *last]);
         }
-        HEADER_END + even
     }
 
     /// The receipt and the window that an OPN or STS tells.
@@ -143,7 +197,7 @@ impl<'a> Packet<'a> {
 pub struct Datagram {
     pub to: u16,
     len: usize,
-    all: [u8; MOST_DATAGRAM],
+    all: [u8; MOST_BUNDLE],
 }
 
 impl Datagram {
@@ -152,14 +206,25 @@ impl Datagram {
     }
 }
 
+/// The versions of the carriage: one packet a datagram, or as many as fit of those that go to one host at once.
+#[derive(Clone, Copy, PartialEq)]
+pub enum Carriage {
+    One,
+    Two,
+}
+
 /// What waits to be sent, in places that are kept: a packet is written as its datagram as soon as it goes out.
-#[derive(Default)]
 pub struct Out {
+    pub carriage: Carriage,
     places: Vec<Datagram>,
     count: usize,
 }
 
 impl Out {
+    pub fn new(carriage: Carriage) -> Self {
+        Out { carriage, places: Vec::new(), count: 0 }
+    }
+
     pub fn is_empty(&self) -> bool {
         self.count == 0
     }
@@ -173,13 +238,29 @@ impl Out {
     }
 
     fn put(&mut self, packet: &Packet) {
+        if self.carriage == Carriage::Two && self.bundle(packet) {
+            return;
+        }
         if self.count == self.places.len() {
-            self.places.push(Datagram { to: 0, len: 0, all: [0; MOST_DATAGRAM] });
+            self.places.push(Datagram { to: 0, len: 0, all: [0; MOST_BUNDLE] });
         }
         let place = &mut self.places[self.count];
         place.to = packet.dst;
-        place.len = packet.write(&mut place.all);
+        place.len = packet.write(place.all.first_chunk_mut().unwrap());
         self.count += 1;
+    }
+
+    /// Puts the packet behind those of the last datagram, where it goes to the same host and fits.
+    fn bundle(&mut self, packet: &Packet) -> bool {
+        let Some(last) = self.places[..self.count].last_mut() else { return false };
+        let packets = if last.all[2] == 2 { last.all[3] } else { 1 };
+        if last.to != packet.dst || packets == MOST_PACKETS || last.len + packet.room() > MOST_BUNDLE {
+            return false;
+        }
+        packet.write_words(&mut last.all[last.len..]);
+        last.all[2..4].copy_from_slice(&[2, packets + 1]);
+        last.len += packet.room();
+        true
     }
 }
 
@@ -294,6 +375,22 @@ impl Conn {
 
     pub fn can_write(&self) -> bool {
         self.state == State::Open && self.outstanding() < self.window
+    }
+
+    /// Whether there is something to serve, and room for its reply.
+    pub fn can_be_served(&self) -> bool {
+        self.state == State::Open && self.front().is_some_and(|item| item.op == EOF || self.can_write())
+    }
+
+    /// The first moment at which a tick sends something or ends the connection, unless something happens before. plain_turn_2 asks this.
+    #[allow(dead_code)]
+    pub fn due(&self) -> u64 {
+        if !matches!(self.state, State::RfcSent | State::Open) {
+            return u64::MAX;
+        }
+        let again = if self.kept.count > 0 { self.resent + RETRANSMIT } else { u64::MAX };
+        let probe = if self.state == State::Open { self.heard.max(self.probed) + PROBE } else { u64::MAX };
+        again.min(probe).min(self.heard + DOWN)
     }
 
     fn hear(&mut self, now: u64) {

@@ -1,6 +1,6 @@
 //! The turns of a client and of a server over a link.
 use crate::file::{Session, Store};
-use crate::host::{Conn, Host, Item, Out, Packet, Slot, State, EOF};
+use crate::host::{Carriage, Conn, Host, Item, Out, Packet, Slot, State, EOF};
 use std::io;
 
 pub const LINK_ROOM: usize = 2048;
@@ -14,7 +14,7 @@ pub trait Link {
 }
 
 /// Sends all that waits, and says whether anything did.
-fn send_all(link: &mut impl Link, out: &mut Out) -> io::Result<bool> {
+pub fn send_all(link: &mut impl Link, out: &mut Out) -> io::Result<bool> {
     if out.is_empty() {
         return Ok(false);
     }
@@ -33,8 +33,8 @@ pub struct Client<L> {
 }
 
 impl<L: Link> Client<L> {
-    pub fn new(address: u16, link: L) -> Self {
-        Client { host: Host::new(address, 1, false), link, out: Out::default(), buffer: [0; LINK_ROOM] }
+    pub fn new(address: u16, carriage: Carriage, link: L) -> Self {
+        Client { host: Host::new(address, 1, false), link, out: Out::new(carriage), buffer: [0; LINK_ROOM] }
     }
 
     /// One turn, which says whether a datagram came or went.
@@ -43,10 +43,10 @@ impl<L: Link> Client<L> {
         let mut worked = send_all(link, out)?;
         if let Some(count) = link.receive(buffer, may_wait)? {
             worked = true;
-            if let Some(packet) = Packet::read(&mut buffer[..count]) {
-                host.deliver(&packet, now, out);
-                send_all(link, out)?;
-            }
+            Packet::each(&mut buffer[..count], |packet| {
+                host.deliver(packet, now, out);
+            });
+            send_all(link, out)?;
         }
         host.slots[0].conn.tick(now, out);
         Ok(send_all(link, out)? || worked)
@@ -92,9 +92,16 @@ impl<L: Link> Client<L> {
 
 /// What a slot keeps for its connection: a new one where a new request is accepted.
 #[derive(Default)]
-struct Kept {
+pub struct Kept {
     session: Session,
     eof: bool,
+}
+
+impl Kept {
+    /// Whether the connection has ended, or its peer is done and has all replies.
+    pub fn may_end(&self, conn: &Conn) -> bool {
+        conn.state == State::Ended || self.eof && conn.state != State::Inactive && conn.outstanding() == 0
+    }
 }
 
 pub struct Server<S, L> {
@@ -107,24 +114,24 @@ pub struct Server<S, L> {
 }
 
 impl<S: Store, L: Link> Server<S, L> {
-    pub fn new(address: u16, conns: usize, store: S, link: L) -> Self {
+    pub fn new(address: u16, conns: usize, carriage: Carriage, store: S, link: L) -> Self {
         Server {
             host: Host::new(address, conns, true),
             sessions: (0..conns).map(|_| Kept::default()).collect(),
             store,
             link,
-            out: Out::default(),
+            out: Out::new(carriage),
             buffer: [0; LINK_ROOM],
         }
     }
 
     /// Whether a connection has something to serve, so that a turn isn't to wait.
     pub fn can_serve_any(&self) -> bool {
-        let mut conns = self.host.slots.iter().map(|slot| &slot.conn);
-        conns.any(|conn| conn.state == State::Open && conn.front().is_some_and(|item| item.op == EOF || conn.can_write()))
+        self.host.slots.iter().any(|slot| slot.conn.can_be_served())
     }
 
-    /// One turn, which says whether a datagram came or went.
+    /// One turn, which says whether a datagram came or went. With version 2 of the carriage it serves a connection until nothing is in
+    /// front or its window is full, so that its replies go out together.
     pub fn turn(&mut self, start: u16, now: u64, may_wait: bool) -> io::Result<bool> {
         let mut worked = send_all(&mut self.link, &mut self.out)?;
         if let Some(count) = self.link.receive(&mut self.buffer, may_wait)? {
@@ -135,13 +142,15 @@ impl<S: Store, L: Link> Server<S, L> {
         let Server { host, sessions, store, link, out, .. } = self;
         for (slot, kept) in host.slots.iter_mut().zip(&mut *sessions) {
             if slot.conn.state == State::Open {
-                serve(&mut slot.conn, kept, store, now, out);
+                let mut goes_on = slot.conn.front().is_some();
+                while goes_on {
+                    goes_on = serve(&mut slot.conn, kept, store, now, out) && out.carriage == Carriage::Two;
+                }
                 worked |= send_all(link, out)?;
             }
         }
         for (slot, kept) in host.slots.iter_mut().zip(sessions) {
-            let has_ended = slot.conn.state == State::Ended;
-            if has_ended || kept.eof && slot.conn.state != State::Inactive && slot.conn.outstanding() == 0 {
+            if kept.may_end(&slot.conn) {
                 end(slot, kept, out);
                 worked |= send_all(link, out)?;
             }
@@ -154,29 +163,32 @@ impl<S: Store, L: Link> Server<S, L> {
     }
 
     fn arrive(&mut self, count: usize, start: u16, now: u64) {
-        let Some(packet) = Packet::read(&mut self.buffer[..count]) else { return };
-        if let Some(slot) = self.host.deliver(&packet, now, &mut self.out) {
-            self.sessions[slot] = Kept::default();
-            self.host.slots[slot].conn.accept(start, now, &mut self.out);
-        }
+        let Server { host, sessions, out, buffer, .. } = self;
+        Packet::each(&mut buffer[..count], |packet| {
+            if let Some(slot) = host.deliver(packet, now, out) {
+                sessions[slot] = Kept::default();
+                host.slots[slot].conn.accept(start, now, out);
+            }
+        });
     }
 }
 
 /// Frees the slot of a connection that has ended, and gives its session's files back: seldom.
 #[cold]
-fn end(slot: &mut Slot, kept: &mut Kept, out: &mut Out) {
+pub fn end(slot: &mut Slot, kept: &mut Kept, out: &mut Out) {
     slot.close(out);
     kept.session.drop_files();
 }
 
-/// Serves an open connection once.
-fn serve(conn: &mut Conn, kept: &mut Kept, store: &mut impl Store, now: u64, out: &mut Out) {
+/// Serves an open connection once, and says whether there was something to serve.
+pub fn serve(conn: &mut Conn, kept: &mut Kept, store: &mut impl Store, now: u64, out: &mut Out) -> bool {
     match conn.front() {
         Some(item) if item.op == EOF => {
             conn.read_done(out);
             kept.eof = true;
         }
         Some(_) if conn.can_write() => conn.reply(now, out, |command, reply| kept.session.apply(store, command, reply)),
-        _ => {}
+        _ => return false,
     }
+    true
 }
