@@ -442,10 +442,24 @@ fn number(text: &[u8], most: u64) -> Option<u64> {
     (number <= most).then_some(number)
 }
 
+/// How many bytes stand before the first that isn't such a byte. Vectors look through sixteen at once.
+fn front_of(bytes: &[u8], is_such: impl Fn(u8) -> bool) -> usize {
+    let pieces = bytes.chunks_exact(16);
+    let whole = 16 * pieces.take_while(|piece| piece.iter().fold(true, |all, &byte| all & is_such(byte))).count();
+    let rest = &bytes[whole..];
+    whole + rest.iter().position(|&byte| !is_such(byte)).unwrap_or(rest.len())
+}
+
+/// Whether a byte stands for itself, and is shown by itself.
+fn is_plain(byte: u8) -> bool {
+    (byte.wrapping_sub(0x20) <= 0x7E - 0x20) & (byte != b'^') & (byte != b'\\')
+}
+
 /// The bytes that a text stands for, in a place of the caller's.
 fn bytes_of<'a>(text: &[u8], room: &'a mut [u8; 488]) -> Option<&'a [u8]> {
-    let mut len = 0;
-    let mut rest = text;
+    let mut len = front_of(text, is_plain);
+    room.get_mut(..len)?.copy_from_slice(&text[..len]);
+    let mut rest = &text[len..];
     while let [first, others @ ..] = rest {
         rest = others;
         let byte = match first {
@@ -471,7 +485,9 @@ fn bytes_of<'a>(text: &[u8], room: &'a mut [u8; 488]) -> Option<&'a [u8]> {
 
 fn put_text(text: &mut Vec<u8>, bytes: &[u8]) {
     const DIGITS: &[u8; 16] = b"0123456789abcdef";
-    for &byte in bytes {
+    let plain = front_of(bytes, is_plain);
+    text.extend_from_slice(&bytes[..plain]);
+    for &byte in &bytes[plain..] {
         match byte {
             0x8D => text.push(b'^'),
             b'^' | b'\\' | 0..=0x1F | 0x7F.. => {
@@ -482,16 +498,37 @@ fn put_text(text: &mut Vec<u8>, bytes: &[u8]) {
     }
 }
 
+/// Each number below 100 as two digits.
+static PAIRS: [[u8; 2]; 100] = pairs();
+
+const fn pairs() -> [[u8; 2]; 100] {
+    let mut table = [[b'0'; 2]; 100];
+    let mut n = 0;
+    while n < 100 {
+        table[n] = [b'0' + (n / 10) as u8, b'0' + (n % 10) as u8];
+        n += 1;
+    }
+    table
+}
+
 fn put_number(text: &mut Vec<u8>, mut number: u64) {
+    if number < 10 {
+        text.push(b'0' + number as u8);
+        return;
+    }
     let mut digits = [0; 20];
     let mut at = digits.len();
-    loop {
+    while number >= 100 {
+        at -= 2;
+        digits[at..at + 2].copy_from_slice(&PAIRS[(number % 100) as usize]);
+        number /= 100;
+    }
+    if number >= 10 {
+        at -= 2;
+        digits[at..at + 2].copy_from_slice(&PAIRS[number as usize]);
+    } else {
         at -= 1;
-        digits[at] = b'0' + (number % 10) as u8;
-        number /= 10;
-        if number == 0 {
-            break;
-        }
+        digits[at] = b'0' + number as u8;
     }
     text.extend_from_slice(&digits[at..]);
 }
@@ -617,8 +654,8 @@ impl Lab {
         }
     }
 
-    fn event(&mut self, line: &[u8]) -> Option<()> {
-        let mut room = [0; 488];
+    /// What a line asks for. The bytes that its text stands for come into the room.
+    fn event(&mut self, line: &[u8], room: &mut [u8; 488]) -> Option<()> {
         let (word, rest) = cut(line);
         match word {
             b"write" => {
@@ -626,12 +663,12 @@ impl Lab {
                 let (op, text) = cut(rest?);
                 let [a @ b'0'..=b'3', b @ b'0'..=b'7', c @ b'0'..=b'7'] = op else { return None };
                 let op = (a - b'0') << 6 | (b - b'0') << 3 | (c - b'0');
-                self.write(side_of(side)?, op, bytes_of(text.unwrap_or(&[]), &mut room)?);
+                self.write(side_of(side)?, op, bytes_of(text.unwrap_or(&[]), room)?);
             }
             b"close" => {
                 let (side, text) = cut(rest?);
                 let side = side_of(side)?;
-                let bytes = bytes_of(text.unwrap_or(&[]), &mut room)?;
+                let bytes = bytes_of(text.unwrap_or(&[]), room)?;
                 self.ends[side].close(bytes, &mut self.out);
                 self.say(&["closed"]);
                 self.post(side);
@@ -669,21 +706,27 @@ fn main() -> ExitCode {
     if std::io::stdin().lock().read_to_end(&mut input).is_err() {
         return ExitCode::from(1);
     }
-    let ended = input.strip_suffix(b"\n").unwrap_or(&input);
+    let mut rest = Some(input.strip_suffix(b"\n").unwrap_or(&input));
     let mut lab: Option<Lab> = None;
+    let mut room = [0; 488];
+    let mut number = 0;
     let mut bad = None;
-    for (place, line) in ended.split(|&b| b == b'\n').enumerate() {
+    while let Some(bytes) = rest {
+        let end = front_of(bytes, |byte| byte != b'\n');
+        let line = &bytes[..end];
+        rest = bytes.get(end + 1..);
+        number += 1;
         let line = line.strip_suffix(b"\r").unwrap_or(line);
         let done = line.len() <= 4096
             && match &mut lab {
-                Some(lab) => lab.event(line).is_some(),
+                Some(lab) => lab.event(line, &mut room).is_some(),
                 None => {
                     lab = first(line);
                     lab.is_some()
                 }
             };
         if !done {
-            bad = Some(place + 1);
+            bad = Some(number);
             break;
         }
     }

@@ -1,16 +1,24 @@
 #!/usr/bin/env python3
 """Times `chaosd show` beside a plain Rust program that prints the same, on inputs of nearly 1 MiB.
 
-Run it by `make bench-show`. The plain program is built for the same processors (x86-64-v2). Each figure is the least processor time of
-many runs, taken in turn, so that what else the machine does counts little; the outputs have to be the same.
+    bench/show.py [PROGRAM]
+
+PROGRAM is bin/chaosd by default. The plain program is built for the same processors (x86-64-v2). Each figure is the least processor
+time of many runs, taken in turn, so that what else the machine does counts little; the outputs have to be the same. Where valgrind or
+perf is there, the instructions of a line are counted too, which don't vary at all.
 """
 
 import pathlib
 import resource
 import subprocess
+import sys
 import tempfile
 
-HERE = pathlib.Path(__file__).parent
+sys.dont_write_bytecode = True
+
+from beside import count_each  # noqa: E402
+
+HERE = pathlib.Path(__file__).resolve().parent
 LIMIT = 1_048_576
 RUNS = 100
 WISHED_RATIO = 1.1
@@ -49,10 +57,11 @@ def run(command, text, out):
 
 
 def main():
+    chaosd = pathlib.Path(sys.argv[1]).resolve() if len(sys.argv) > 1 else HERE.parent / "bin/chaosd"
     with tempfile.TemporaryDirectory() as folder:
         plain = f"{folder}/plain_show"
         subprocess.run(["rustc", "-O", "-C", "target-cpu=x86-64-v2", "-o", plain, HERE / "plain_show.rs"], check=True)
-        programs = {"chaosd": [HERE.parent / "bin/chaosd", "show"], "plain": [plain]}
+        programs = {"chaosd": [chaosd, "show"], "plain": [plain]}
         for name, content in INPUTS.items():
             text = f"{folder}/input"
             pathlib.Path(text).write_bytes(content)
@@ -63,7 +72,8 @@ def main():
                     best[program] = min(best.get(program, spent), spent)
             assert seen["chaosd"] == seen["plain"], f"{name}: the outputs differ"
             ratio = best["chaosd"] / best["plain"]
-            print(f"{name}: chaosd {best['chaosd'] * 1000:.1f} ms, plain Rust {best['plain'] * 1000:.1f} ms, ratio {ratio:.2f} (wish: {WISHED_RATIO})")
+            print(f"{name}: chaosd {best['chaosd'] * 1000:.1f} ms, plain Rust {best['plain'] * 1000:.1f} ms, ratio {ratio:.2f} (wish: {WISHED_RATIO})", flush=True)
+            count_each(name, programs, [content, b""], content.count(b"\n"), "line")
 
 
 if __name__ == "__main__":
