@@ -6,3 +6,4 @@ pub mod Interruptions
 pub mod Steps
 pub mod Cutting
 pub mod Runs
+mod Digits

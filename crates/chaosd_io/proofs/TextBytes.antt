@@ -181,6 +181,15 @@ byte_end text front i le few so_far =
     ∙ ap within_packet
     (ap Some (sym (append-nil front)) ∙ ap (with_front front) (sym (text_end text i le)) ∙ so_far)
 
+-- a text of plain bytes stands for itself
+pub plain_stands : (text : List ℕ) → list_all is_plain text ≡ true → length text ≤ MAX_DATA → Some text ≡ data_of text
+plain_stands text plain few =
+    let n = length text in
+    let whole : take n text ≡ text = take_all n text (omega arith) in
+    byte_end text text n (omega arith) few
+    (ap (λ l. with_front l (bytes_of (drop n text))) (sym whole)
+    ∙ sym (piece_read text n (ap (list_all is_plain) whole ∙ plain)))
+
 -- ---- whether a text stands for bytes
 
 some_byte : (b : ℕ) (others : Option (List ℕ)) → is_some (with_byte (Some b) others) ≡ is_some others

@@ -1,12 +1,14 @@
 //! Bytes that wait to be written.
 ghost use Rattle.std.specs.Prelude.{◌≡◌, ◌+◌, ◌-◌, ◌^◌, ◌<◌, ◌≤◌, ◌↔◌, ◌++◌, [], ℕ, List, Some, Ok, length, min, drop, IsOk, IsTrue, OnOk, OnErr, IfSome};
+ghost use Rattle.std.specs.Fmt.{decimal};
 ghost use Rattle.std.specs.Io.{WritesAtMost};
 ghost use Rattle.std.specs.Io.KnownBytes.{Appends, Keeps, WriteAppends};
 ghost use Rattle.chaosd_io.specs.Buffer.{written_of};
 
 use crate::limits::BUFFER_LEN;
+use crate::moves::move_to_front;
 use crate::output::{ByWrite, WriteOnce, write_out};
-use arrayvec::ArrayVec;
+use itoa::write_digits;
 use std::io;
 use std::io::{Error, ErrorKind, Write};
 use std::marker::Model;
@@ -27,13 +29,21 @@ pub struct NotWritten;
 /// Nothing is handed on when the value is dropped.
 #[derive(Drop)]
 pub struct WriteBuffer {
-    bytes: ArrayVec<u8, BUFFER_LEN>,
+    /// What waits, and behind it bytes that wait no more. These are not cleared.
+    bytes: [u8; BUFFER_LEN],
+    /// How many bytes wait.
+    waiting: usize,
 }
 
 impl Model for WriteBuffer {
+    ghost use Rattle.std.specs.Prelude.{◌≤◌, ℕ, List, take};
+    ghost use Rattle.chaosd_io.specs.declared.limits.TheConstants.{BUFFER_LEN};
+
     ghost Value = { List ℕ };
 
-    ghost view = { λ b. b.bytes.items };
+    ghost view = { λ b. take b.waiting b.bytes };
+
+    ghost invariant = { λ b. b.waiting ≤ BUFFER_LEN };
 }
 
 impl WriteBuffer {
@@ -43,7 +53,8 @@ impl WriteBuffer {
         ensures { result ≡ [] }
     {
         WriteBuffer {
-            bytes: ArrayVec::new(),
+            bytes: [0; BUFFER_LEN],
+            waiting: 0,
         }
     }
 
@@ -52,7 +63,7 @@ impl WriteBuffer {
         // The room and what waits in the buffer are 16,384 bytes together.
         ensures { result + length self.now ≡ BUFFER_LEN }
     {
-        self.bytes.remaining_capacity()
+        BUFFER_LEN - self.waiting
     }
 
     /// Takes all bytes, if they fit.
@@ -66,10 +77,40 @@ impl WriteBuffer {
         ensures fits { IsOk result ↔ (length self.old + length bytes.now ≤ BUFFER_LEN) }
         ensures refused { OnErr result (self.new ≡ self.old) }
     {
-        match self.bytes.try_extend_from_slice(bytes) {
-            Ok(()) => Ok(()),
-            Err(_) => Err(NotWritten),
+        if self.room() < bytes.len() {
+            return Err(NotWritten);
         }
+        self.append(bytes);
+        Ok(())
+    }
+
+    /// Takes the digits of a number in decimal, of which there are `count`, if they fit.
+    ///
+    /// # Errors
+    /// `NotWritten` if they don't fit; nothing is taken then.
+    #[inline]
+    pub(crate) fn put_digits(&mut self, n: u64, count: usize) -> Result<(), NotWritten>
+        requires { count ≡ length (decimal n) }
+        ensures { OnOk result (self.new ≡ self.old ++ decimal n) }
+    {
+        if self.room() < count {
+            return Err(NotWritten);
+        }
+        let end = self.waiting + count;
+        write_digits(n, &mut self.bytes, end);
+        self.waiting = end;
+        Ok(())
+    }
+
+    /// Takes bytes that fit.
+    #[inline]
+    fn append(&mut self, bytes: &[u8])
+        requires { length self.old + length bytes.now ≤ BUFFER_LEN }
+        ensures { self.new ≡ self.old ++ bytes.now }
+    {
+        let end = self.waiting + bytes.len();
+        self.bytes[self.waiting..end].copy_from_slice(bytes);
+        self.waiting = end;
     }
 
     /// Hands on all bytes, and flushes the writer that takes them. The cost is the writer's.
@@ -108,10 +149,20 @@ impl WriteBuffer {
         ensures interrupted { IfSome (T.interruptions writer.old)
             (λ n. n < 2 ^ 64 - 1 → IsOk result) }
     {
-        let (count, end) = write_out::<T, W>(writer, self.bytes.as_slice());
-        remove_front(&mut self.bytes, count);
+        let (count, end) = write_out::<T, W>(writer, &self.bytes[..self.waiting]);
+        self.remove_front(count);
         end?;
         T::flush_once(writer)
+    }
+
+    /// Takes that many bytes off the front. The others move there.
+    fn remove_front(&mut self, count: usize)
+        requires { count ≤ length self.old }
+        ensures { self.new ≡ drop count self.old }
+    {
+        let rest = self.waiting - count;
+        move_to_front(&mut self.bytes, count, rest);
+        self.waiting = rest;
     }
 }
 
@@ -127,7 +178,7 @@ impl Write for WriteBuffer {
         ensures count { result ≡ Ok (min (length bytes.now) (BUFFER_LEN - length self.old)) }
     {
         let count = bytes.len().min(self.room());
-        let _fits = self.bytes.try_extend_from_slice(&bytes[..count]);
+        self.append(&bytes[..count]);
         Ok(count)
     }
 
@@ -156,18 +207,4 @@ impl Write for WriteBuffer {
             Err(NotWritten) => Err(Error::from(ErrorKind::WriteZero)),
         }
     }
-}
-
-/// Takes that many bytes off the front.
-fn remove_front(bytes: &mut ArrayVec<u8, BUFFER_LEN>, count: usize)
-    requires { count ≤ length bytes.old.items }
-    ensures { bytes.new.items ≡ drop count bytes.old.items }
-{
-    if count == bytes.len() {
-        bytes.clear();
-        return;
-    }
-    let mut rest = ArrayVec::new();
-    let _fits = rest.try_extend_from_slice(&bytes.as_slice()[count..]);
-    *bytes = rest;
 }

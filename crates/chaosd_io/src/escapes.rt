@@ -139,6 +139,23 @@ pub fn read_data(text: &[u8], bytes: &mut Data) -> Option<()>
     Some(())
 }
 
+/// The bytes that a text stands for, lent: from the text itself where each of its bytes stands for
+/// itself, and otherwise from the caller's place, as [`read_data`] leaves them there.
+///
+/// The cost is a look at each byte of a text that is lent, and otherwise that of [`read_data`] too.
+#[inline]
+pub fn data_of<'a>(text: &'a [u8], place: &'a mut Data) -> Option<&'a [u8]>
+    // The bytes that a text of a script stands for, at most 488, are lent exactly where it is such
+    // a text.
+    ensures { option_map (λ bytes. bytes.now) result ≡ data_of text.now }
+{
+    if text.len() <= MAX_DATA && are_plain(text) {
+        return Some(text);
+    }
+    read_data(text, place)?;
+    Some(place.as_slice())
+}
+
 /// A lower-case hexadecimal digit.
 fn low_hex_digit(digit: u8) -> u8
     requires { digit < 16 }

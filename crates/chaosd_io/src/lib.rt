@@ -13,13 +13,14 @@ mod input;
 mod limits;
 mod lines;
 mod memory;
+mod moves;
 mod output;
 mod reader;
 mod texts;
 
 pub use bad_text::{BadText, why_text};
 pub use buffer::{NotWritten, WriteBuffer};
-pub use escapes::{Data, law_read_back, put_text, read_data};
+pub use escapes::{Data, data_of, law_read_back, put_text, read_data};
 pub use fault::{RunFault, written};
 pub use input::{ByRead, ReadOnce, read_chunk};
 pub use limits::{BUFFER_LEN, CHUNK_LEN, INPUT_LIMIT, KEPT_LEN, LINE_LIMIT, law_limits};

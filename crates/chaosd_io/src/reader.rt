@@ -10,6 +10,7 @@ use crate::fault::RunFault;
 use crate::input::{ByRead, ReadOnce, read_chunk};
 use crate::limits::CHUNK_LEN;
 use crate::lines::cut_line;
+use crate::moves::move_to_front;
 use std::io::Read;
 use std::marker::Model;
 
@@ -201,7 +202,7 @@ impl<const KEPT: usize> LineReader<KEPT> {
             self.new.interruptions result }
     {
         let len = (self.from - self.begin).min(KEPT);
-        move_up(&mut self.bytes, self.begin, len);
+        move_to_front(&mut self.bytes, self.begin, len);
         self.start = 0;
         self.end = 0;
         self.begin = 0;
@@ -236,15 +237,5 @@ impl<const KEPT: usize> LineReader<KEPT> {
         } else {
             Some(&self.bytes[self.begin..self.from])
         }
-    }
-}
-
-/// Moves so many bytes from that place to the front.
-fn move_up(bytes: &mut [u8; HELD_LEN], from: usize, len: usize)
-    requires { from + len ≤ HELD_LEN }
-    ensures { take len bytes.new ≡ take len (drop from bytes.old) }
-{
-    if from > 0 {
-        bytes.copy_within(from..from + len, 0);
     }
 }

@@ -1,10 +1,9 @@
 //! Lines and numbers as text.
-ghost use Rattle.std.specs.Prelude.{◌≡◌, ◌<◌, ◌++◌, OnOk};
+ghost use Rattle.std.specs.Prelude.{◌≡◌, ◌<◌, ◌≤◌, ◌++◌, length, OnOk};
 ghost use Rattle.std.specs.Fmt.{decimal};
 ghost use Rattle.chaosd_io.specs.Texts.{line, octal_three};
 
 use crate::buffer::{NotWritten, WriteBuffer};
-use itoa::Buffer;
 
 /// Writes a text, and the end of its line.
 ///
@@ -26,8 +25,35 @@ pub fn put_decimal(out: &mut WriteBuffer, n: usize) -> Result<(), NotWritten>
     // If it ends well, the number was written in decimal.
     ensures { OnOk result (out.new ≡ out.old ++ decimal n) }
 {
-    let mut digits = Buffer::new();
-    out.put(digits.format(n).as_bytes())
+    out.put_digits(n as u64, digits_in(n as u64))
+}
+
+/// How many digits a number has in decimal, counted by four.
+#[inline]
+fn digits_in(n: u64) -> usize
+    ensures { result ≡ length (decimal n) }
+{
+    let mut count = 0;
+    let mut rest = n;
+    while rest >= 10_000 {
+        rest /= 10_000;
+        count += 4;
+    }
+    count + last_digits(rest)
+}
+
+/// How many digits a number of at most four has.
+#[inline]
+fn last_digits(n: u64) -> usize
+    requires { n < 10000 }
+    ensures { result ≡ length (decimal n) }
+{
+    match n {
+        0..=9 => 1,
+        10..=99 => 2,
+        100..=999 => 3,
+        _ => 4,
+    }
 }
 
 /// Writes a number below 512 as three octal digits.
