@@ -94,7 +94,7 @@ LIBRARIES = {
             "a READ",
             "file: READ of 448 bytes",
             1.1,
-            why="A reply's place is cleared before it is written, copies look for an overlap, and what a command changed is handed up.",
+            why="A reply's place is cleared before it is written, and copies look for an overlap.",
         ),
     ],
     "turn": [

@@ -79,16 +79,11 @@ IsChange store s t command reply made = (outcome : Result Answer FileError)
 -- ---- the parts of the work
 
 -- a part that was carried out changed this
-abbrev pub Reports : StoreChange → Plan → SessionView → SessionView → Result (Option Change) FileError → Type 0
-Reports store plan s t (Ok made) = Makes store plan s t made
-Reports store plan s t (Err error) = Unit {0}
+abbrev pub Reports : StoreChange → Plan → SessionView → SessionView → Option Change → Done → Type 0
+Reports store plan s t made (Ok u) = Makes store plan s t made
+Reports store plan s t made (Err error) = Unit {0}
 
--- how a part ended, without what it changed
-abbrev pub end_of : {A : Type 0} → Result A FileError → Done
-end_of (Ok made) = Ok tt
-end_of (Err error) = Err error
-
--- what is reported of a command that ended so
-abbrev pub reported : SessionView → ParsedView → Result (Option Change) FileError → Option Change
-reported s p (Ok made) = made
-reported s p (Err error) = Some (change.Refused (attempt_of s p) error)
+-- what is reported of a command whose part ended so, and made this change where it was carried out
+abbrev pub reported : SessionView → ParsedView → Option Change → Done → Option Change
+reported s p made (Ok u) = made
+reported s p made (Err error) = Some (change.Refused (attempt_of s p) error)

@@ -2,7 +2,6 @@
 ghost use Rattle.std.specs.Prelude.{◌≡◌, ◌≤◌, ◌+◌, ◌∷◌, ◌++◌, [], length, OnErr};
 ghost use Rattle.std.specs.Fmt.{decimal};
 ghost use Rattle.chaos_file.specs.Answer.{reply_front, answer_text, read_answer};
-ghost use Rattle.chaos_file.specs.Change.{end_of};
 ghost use Rattle.chaos_file.specs.Outcome.{whole_reply};
 
 use crate::error::FileError;
@@ -56,9 +55,9 @@ pub(crate) fn begin(reply: &mut Reply, tid: &[u8], handle: &[u8])
 }
 
 /// Writes the end of a reply: the error, where there is one.
-pub(crate) fn end<T>(reply: &mut Reply, done: &Result<T, FileError>)
-    requires { OnErr (end_of done.now) (length reply.old.items ≤ MAX_FRONT) }
-    ensures { reply.new.items ≡ whole_reply (end_of done.now) reply.old.items }
+pub(crate) fn end(reply: &mut Reply, done: Result<(), FileError>)
+    requires { OnErr done (length reply.old.items ≤ MAX_FRONT) }
+    ensures { reply.new.items ≡ whole_reply done reply.old.items }
 {
     if let Err(error) = done {
         put(reply, error.text());

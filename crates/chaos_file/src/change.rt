@@ -1,4 +1,6 @@
 //! What a command changed.
+ghost use Rattle.std.specs.Prelude.{◌≡◌};
+
 use crate::error::FileError;
 use crate::names::FilePath;
 
@@ -33,4 +35,14 @@ pub enum Change {
     Deleted(FilePath),
     /// The command was answered by this error, and changed nothing.
     Refused(Attempt, FileError),
+}
+
+/// Empties the place of a change. To write `None` is to write all bytes of the place, so a place
+/// that is empty is only looked at.
+pub(crate) fn clear(made: &mut Option<Change>)
+    ensures { made.new ≡ None }
+{
+    if made.is_some() {
+        *made = None;
+    }
 }

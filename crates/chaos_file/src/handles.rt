@@ -65,6 +65,7 @@ impl Handles {
     }
 
     /// Answers a READ of the handle at a place.
+    #[inline(always)]
     pub(crate) fn read_at(&mut self, at: usize, reply: &mut Reply)
         requires within { at < length self.old }
         requires room { length reply.old.items ≤ MAX_FRONT }

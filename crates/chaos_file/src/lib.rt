@@ -8,8 +8,8 @@
 //!
 //! On a connection each data item that the peer wrote is a command, which is carried out once and
 //! answered by one reply. [`serve_conn`] serves an end of a connection, and [`serve_one`] one of a
-//! host's connections. [`serve_and_report`] also returns what the command changed. [`can_serve`]
-//! returns whether [`serve_one`] would serve anything.
+//! host's connections. [`Session::serve_and_report`] also says what the command changed.
+//! [`can_serve`] returns whether [`serve_one`] would serve anything.
 #![tactic(auto)]
 
 mod answer;
@@ -63,7 +63,7 @@ pub use printed::PrintedName;
 pub use read_only::ReadOnly;
 pub use reply::{ReplyParts, Said, read_reply};
 pub use serve_at_conn::serve_conn;
-pub use serve_at_host::{ServeAt, serve_and_report, serve_one};
+pub use serve_at_host::{ServeAt, serve_one};
 pub use serve_due::{can_serve, can_serve_conn};
 pub use serve_law::law_reply_taken;
 pub use served::Served;

@@ -1,5 +1,5 @@
 //! A user's session: one reply for each command.
-ghost use Rattle.std.specs.Prelude.{◌≡◌, ◌≤◌, [], length, option_map, IfOk, None};
+ghost use Rattle.std.specs.Prelude.{◌≡◌, ◌≤◌, [], length, option_map};
 ghost use Rattle.chaos_file.specs.Session.{SessionView, new_session};
 ghost use Rattle.chaos_file.specs.Command.{word_said};
 ghost use Rattle.chaos_file.specs.Views.{command_view, parsed_view, CommandFits, ParsedFits};
@@ -7,7 +7,7 @@ ghost use Rattle.chaos_file.specs.Plan.{plan_command, may_say, if_known, Refuse,
 ghost use Rattle.chaos_file.specs.Store.{change};
 ghost use Rattle.chaos_file.specs.Outcome.{IsDone};
 ghost use Rattle.chaos_file.specs.Apply.{IsApplied};
-ghost use Rattle.chaos_file.specs.Change.{IsChange, Reports, end_of};
+ghost use Rattle.chaos_file.specs.Change.{IsChange, Reports};
 
 mod asked;
 mod close;
@@ -16,7 +16,7 @@ mod paths;
 mod transfer;
 
 use crate::answer::{Reply, begin, end};
-use crate::change::Change;
+use crate::change::{Change, clear};
 use crate::command::{Command, Parsed, Word};
 use crate::error::FileError;
 use crate::handles::Handles;
@@ -35,19 +35,8 @@ pub struct Session {
     handles: Handles,
 }
 
-/// How a part of a command's work ended: what it changed, or by which error it was refused.
-type Done = Result<Option<Change>, FileError>;
-
-/// How a part ended that changed no file.
-fn unchanged(done: Result<(), FileError>) -> Done
-    ensures done { end_of result ≡ done }
-    ensures change { IfOk result (λ made. made ≡ None) }
-{
-    match done {
-        Ok(()) => Ok(None),
-        Err(error) => Err(error),
-    }
-}
+/// How a part of a command's work ended: by which error, where it was refused.
+type Done = Result<(), FileError>;
 
 impl Model for Session {
     ghost use Rattle.std.specs.Prelude.{option_map};
@@ -120,13 +109,14 @@ impl Session {
             self.new command.now result.items }
     {
         let mut reply = Reply::new();
-        let _ = self.apply_into(alloc, store, command, &mut reply);
+        let mut made = None;
+        self.apply_into(alloc, store, command, &mut reply, &mut made);
         reply
     }
 
     /// Carries out a command, and says what the command changed. `apply` is this call without the
-    /// change. The reply is written into a place of the caller's, over what stood there: none is
-    /// moved.
+    /// change. The reply and the change are written into places of the caller's, over what stood
+    /// there: none is moved. A command without a change only marks its place as empty.
     ///
     /// The change is a file that was opened to be read, written, replaced, moved or taken out; or
     /// that the command was refused, by which error, and what it asked for. Any other command has
@@ -137,9 +127,10 @@ impl Session {
         store: &mut S,
         command: &[u8],
         reply: &mut Reply,
-    ) -> Option<Change>
+        made: &mut Option<Change>,
+    )
         // The session, the store and the reply are as `Session::apply` says, whatever stood in the
-        // place.
+        // places.
         ensures applied { IsApplied (change S.contents S.may_give S.count store.old store.new)
             self.old self.new command.now reply.new.items }
         // After an ERROR reply the change is that the command was refused by this error, with the
@@ -149,31 +140,34 @@ impl Session {
         // honest store says truly which. A RENAME has moved a file, and a DELETE has taken one out.
         // Every other command has no change.
         ensures changed { IsChange (change S.contents S.may_give S.count store.old store.new)
-            self.old self.new command.now reply.new.items result }
+            self.old self.new command.now reply.new.items made.new }
     {
         reply.clear();
+        clear(made);
         let parsed = parse_command(command);
         begin(reply, parsed.tid(), parsed.handle());
-        let done = self.act(alloc, store, parsed, reply);
-        end(reply, &done);
-        self.report(parsed, done)
+        let done = self.act(alloc, store, parsed, reply, made);
+        end(reply, done);
+        self.report(parsed, done, made);
     }
 
     /// Carries out what was read: a command of the right form, where the user may give it.
-    #[tactic(auto, using(crate::proofs::Outcome::settled_done))]
+    #[tactic(auto, using(crate::proofs::Outcome::settled_done, crate::proofs::Changed::settled_unmade))]
     fn act<S: Store>(
         &mut self,
         alloc: Global,
         store: &mut S,
         parsed: Parsed<'_>,
         reply: &mut Reply,
+        made: &mut Option<Change>,
     ) -> Done
         requires fits { ParsedFits (parsed_view parsed) }
         requires room { length reply.old.items ≤ MAX_FRONT }
+        requires unmade { made.old ≡ None }
         ensures done { IsDone (change S.contents S.may_give S.count store.old store.new)
             (plan_of self.old (parsed_view parsed.entry))
             (record {
-              done = end_of result;
+              done = result;
               front = reply.old.items;
               reply = reply.new.items;
               old = self.old;
@@ -181,7 +175,7 @@ impl Session {
             }) }
         ensures change { Reports (change S.contents S.may_give S.count store.old store.new)
             (plan_of self.old (parsed_view parsed.entry))
-            self.old self.new result }
+            self.old self.new made.new result }
     {
         let (handle, command) = match parsed {
             Parsed::BadHead => return Err(FileError::Syntax),
@@ -195,14 +189,14 @@ impl Session {
             return Err(FileError::NotLoggedIn);
         }
         match command {
-            Command::Login(name) => unchanged(self.log_in(name, reply)),
-            Command::OpenRead(path) => self.open_read(alloc, store, handle, path, reply),
-            Command::OpenWrite(path) => unchanged(self.open_write(handle, path, reply)),
-            Command::Read => unchanged(self.read(handle, reply)),
-            Command::Write(bytes) => unchanged(self.write(alloc, handle, bytes, reply)),
-            Command::Close => self.close(alloc, store, handle, reply),
-            Command::Rename(old, new) => self.rename(alloc, store, old, new, reply),
-            Command::Delete(path) => self.delete(alloc, store, path, reply),
+            Command::Login(name) => self.log_in(name, reply),
+            Command::OpenRead(path) => self.open_read(alloc, store, handle, path, reply, made),
+            Command::OpenWrite(path) => self.open_write(handle, path, reply),
+            Command::Read => self.read(handle, reply),
+            Command::Write(bytes) => self.write(alloc, handle, bytes, reply),
+            Command::Close => self.close(alloc, store, handle, reply, made),
+            Command::Rename(old, new) => self.rename(alloc, store, old, new, reply, made),
+            Command::Delete(path) => self.delete(alloc, store, path, reply, made),
         }
     }
 

@@ -11,7 +11,7 @@ ghost use Rattle.file_server.specs.Watch.{peer_at};
 
 use crate::log::Log;
 use crate::watch::peer_of;
-use chaos_file::{ServeAt, Served, Session, Store, serve_and_report};
+use chaos_file::{ServeAt, Served, Session, Store};
 use chaos_host::{ConnId, Host};
 use chaos_packet::Outbox;
 use std::alloc::{AllocError, Global};
@@ -212,7 +212,8 @@ impl SlotSession {
             self.begin(id, at.moment);
         }
         let session = &mut *self.session;
-        let (served, made) = serve_and_report(at, host, id, session, store, out);
+        let mut made = None;
+        let served = session.serve_and_report(at, host, id, store, out, &mut made);
         match served {
             Served::Eof => self.eof = true,
             Served::Replied => self.commands = self.commands.saturating_add(1),

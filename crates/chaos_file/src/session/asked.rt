@@ -47,7 +47,9 @@ impl Session {
         }
     }
 
-    /// What a command asks for.
+    /// What a command asks for. Only a command that was refused is looked at so: the call stays out of
+    /// the way of all others.
+    #[inline(never)]
     fn attempt(&self, parsed: Parsed<'_>) -> Attempt
         requires { ParsedFits (parsed_view parsed) }
         ensures { result ≡ attempt_of self.now (parsed_view parsed.entry) }
@@ -58,15 +60,14 @@ impl Session {
         }
     }
 
-    /// What is reported of a command that ended so: a command that was refused left the session as
-    /// it was.
-    pub(super) fn report(&self, parsed: Parsed<'_>, done: Done) -> Option<Change>
+    /// Reports a command that was refused, in the place of what a command changed. Such a command
+    /// left the session as it was.
+    pub(super) fn report(&self, parsed: Parsed<'_>, done: Done, made: &mut Option<Change>)
         requires { ParsedFits (parsed_view parsed) }
-        ensures { result ≡ reported self.now (parsed_view parsed.entry) done }
+        ensures { made.new ≡ reported self.now (parsed_view parsed.entry) made.old done }
     {
-        match done {
-            Ok(made) => made,
-            Err(error) => Some(Change::Refused(self.attempt(parsed), error)),
+        if let Err(error) = done {
+            *made = Some(Change::Refused(self.attempt(parsed), error));
         }
     }
 }

@@ -4,11 +4,12 @@ ghost use Rattle.chaos_file.specs.Answer.{Closed, answer_text};
 ghost use Rattle.chaos_file.specs.Session.{handle_named, handle_at, without_handle};
 ghost use Rattle.chaos_file.specs.Plan.{plan_close};
 ghost use Rattle.chaos_file.specs.Store.{change};
-ghost use Rattle.chaos_file.specs.Change.{Reports, end_of};
+ghost use Rattle.chaos_file.specs.Change.{Reports};
 ghost use Rattle.chaos_file.specs.Outcome.{IsDone};
 
 use super::{Done, Session};
 use crate::answer::{Reply, tell_count};
+use crate::change::Change;
 use crate::error::FileError;
 use crate::limits::MAX_FRONT;
 use crate::store::{Store, Stored};
@@ -36,12 +37,14 @@ impl Session {
         store: &mut S,
         handle: &[u8],
         reply: &mut Reply,
+        made: &mut Option<Change>,
     ) -> Done
-        requires { length reply.old.items ≤ MAX_FRONT }
+        requires room { length reply.old.items ≤ MAX_FRONT }
+        requires unmade { made.old ≡ None }
         ensures done { IsDone (change S.contents S.may_give S.count store.old store.new)
             (plan_close self.old (handle_named handle.now self.old.handles))
             (record {
-              done = end_of result;
+              done = result;
               front = reply.old.items;
               reply = reply.new.items;
               old = self.old;
@@ -49,22 +52,22 @@ impl Session {
             }) }
         ensures change { Reports (change S.contents S.may_give S.count store.old store.new)
             (plan_close self.old (handle_named handle.now self.old.handles))
-            self.old self.new result }
+            self.old self.new made.new result }
     {
         match self.handles.find(handle) {
             None => Err(FileError::NoSuchHandle),
             Some((at, h)) if h.writes() => match store.put(alloc, h.path(), h.bytes()) {
                 Stored::Done(placed) => {
-                    let change = h.put_change(placed);
+                    *made = Some(h.put_change(placed));
                     self.close_at(at, reply);
-                    Ok(Some(change))
+                    Ok(())
                 }
                 Stored::Failed => Err(FileError::StoreFault),
                 Stored::NoMemory => Err(FileError::NoMemory),
             },
             Some((at, _)) => {
                 self.close_at(at, reply);
-                Ok(None)
+                Ok(())
             }
         }
     }

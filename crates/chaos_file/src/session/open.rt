@@ -4,7 +4,7 @@ ghost use Rattle.chaos_file.specs.Answer.{LoggedIn, Opened};
 ghost use Rattle.chaos_file.specs.Session.{handle_named, with_name, with_new_handle, writer};
 ghost use Rattle.chaos_file.specs.Plan.{Tell, Ask, GetFile, open_error, plan_open};
 ghost use Rattle.chaos_file.specs.Store.{change};
-ghost use Rattle.chaos_file.specs.Change.{Reports, end_of};
+ghost use Rattle.chaos_file.specs.Change.{Reports};
 ghost use Rattle.chaos_file.specs.Outcome.{Settles, IsDone};
 
 use super::{Done, Session};
@@ -18,7 +18,7 @@ use std::alloc::Global;
 
 impl Session {
     /// LOGIN: the session has this name. Its handles stay.
-    pub(super) fn log_in(&mut self, name: &[u8], reply: &mut Reply) -> Result<(), FileError>
+    pub(super) fn log_in(&mut self, name: &[u8], reply: &mut Reply) -> Done
         requires name { length name.now ≤ MAX_NAME }
         requires room { length reply.old.items ≤ MAX_FRONT }
         ensures { Settles (Tell (with_name self.old name.now) (LoggedIn name.now))
@@ -55,12 +55,7 @@ impl Session {
     }
 
     /// OPEN WRITE: the handle holds no bytes yet, and the store isn't asked.
-    pub(super) fn open_write(
-        &mut self,
-        name: &[u8],
-        path: &[u8],
-        reply: &mut Reply,
-    ) -> Result<(), FileError>
+    pub(super) fn open_write(&mut self, name: &[u8], path: &[u8], reply: &mut Reply) -> Done
         requires name { length name.now ≤ MAX_HANDLE }
         requires path { length path.now ≤ MAX_PATH }
         requires room { length reply.old.items ≤ MAX_FRONT }
@@ -91,6 +86,7 @@ impl Session {
         name: &[u8],
         path: &[u8],
         reply: &mut Reply,
+        made: &mut Option<Change>,
     ) -> Done
         requires name { length name.now ≤ MAX_HANDLE }
         requires path { length path.now ≤ MAX_PATH }
@@ -98,7 +94,7 @@ impl Session {
         ensures done { IsDone (change S.contents S.may_give S.count store.old store.new)
             (plan_open self.old name.now (Ask (GetFile name.now path.now)))
             (record {
-              done = end_of result;
+              done = result;
               front = reply.old.items;
               reply = reply.new.items;
               old = self.old;
@@ -106,17 +102,17 @@ impl Session {
             }) }
         ensures change { Reports (change S.contents S.may_give S.count store.old store.new)
             (plan_open self.old name.now (Ask (GetFile name.now path.now)))
-            self.old self.new result }
+            self.old self.new made.new result }
     {
         if let Some(error) = self.open_error(name) {
             return Err(error);
         }
         match store.get(alloc, path, MAX_FILE) {
             Got::Bytes(bytes) => {
-                let change = Change::Read(kept(path), bytes.len());
+                *made = Some(Change::Read(kept(path), bytes.len()));
                 tell_count(reply, b"OPEN ", bytes.len());
                 self.add(Handle::reader(name, path, bytes));
-                Ok(Some(change))
+                Ok(())
             }
             Got::Absent => Err(FileError::NoSuchFile),
             Got::TooBig => Err(FileError::FileTooBig),

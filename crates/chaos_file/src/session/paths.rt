@@ -2,7 +2,7 @@
 ghost use Rattle.std.specs.Prelude.{◌≡◌, ◌≤◌, length};
 ghost use Rattle.chaos_file.specs.Plan.{Ask, RenameFile, RemoveFile};
 ghost use Rattle.chaos_file.specs.Store.{change};
-ghost use Rattle.chaos_file.specs.Change.{Reports, end_of};
+ghost use Rattle.chaos_file.specs.Change.{Reports};
 ghost use Rattle.chaos_file.specs.Outcome.{IsDone};
 
 use super::{Done, Session};
@@ -22,6 +22,7 @@ impl Session {
         old: &[u8],
         new: &[u8],
         reply: &mut Reply,
+        made: &mut Option<Change>,
     ) -> Done
         requires old { length old.now ≤ MAX_PATH }
         requires new { length new.now ≤ MAX_PATH }
@@ -29,7 +30,7 @@ impl Session {
         ensures done { IsDone (change S.contents S.may_give S.count store.old store.new)
             (Ask (RenameFile old.now new.now))
             (record {
-              done = end_of result;
+              done = result;
               front = reply.old.items;
               reply = reply.new.items;
               old = self.now;
@@ -37,12 +38,13 @@ impl Session {
             }) }
         ensures change { Reports (change S.contents S.may_give S.count store.old store.new)
             (Ask (RenameFile old.now new.now))
-            self.now self.now result }
+            self.now self.now made.new result }
     {
         match store.rename(alloc, old, new) {
             Renamed::Done => {
                 put(reply, b"RENAME");
-                Ok(Some(Change::Renamed(kept(old), kept(new))))
+                *made = Some(Change::Renamed(kept(old), kept(new)));
+                Ok(())
             }
             Renamed::Absent => Err(FileError::NoSuchFile),
             Renamed::Exists => Err(FileError::FileExists),
@@ -58,13 +60,14 @@ impl Session {
         store: &mut S,
         path: &[u8],
         reply: &mut Reply,
+        made: &mut Option<Change>,
     ) -> Done
         requires path { length path.now ≤ MAX_PATH }
         requires room { length reply.old.items ≤ MAX_FRONT }
         ensures done { IsDone (change S.contents S.may_give S.count store.old store.new)
             (Ask (RemoveFile path.now))
             (record {
-              done = end_of result;
+              done = result;
               front = reply.old.items;
               reply = reply.new.items;
               old = self.now;
@@ -72,12 +75,13 @@ impl Session {
             }) }
         ensures change { Reports (change S.contents S.may_give S.count store.old store.new)
             (Ask (RemoveFile path.now))
-            self.now self.now result }
+            self.now self.now made.new result }
     {
         match store.remove(alloc, path) {
             Removed::Done => {
                 put(reply, b"DELETE");
-                Ok(Some(Change::Deleted(kept(path))))
+                *made = Some(Change::Deleted(kept(path)));
+                Ok(())
             }
             Removed::Absent => Err(FileError::NoSuchFile),
             Removed::Failed => Err(FileError::StoreFault),

@@ -1,17 +1,19 @@
-//! READ and WRITE.
+//! READ and WRITE. Most commands are these, so their parts are compiled into the one place that calls
+//! them.
 ghost use Rattle.std.specs.Prelude.{◌≡◌, ◌<◌, ◌≤◌, ◌+◌, ◌++◌, length, OnOk, OnErr};
 ghost use Rattle.chaos_file.specs.Answer.{Wrote, answer_text, read_answer};
 ghost use Rattle.chaos_file.specs.Session.{handle_named, handle_at, next_bytes, after_read, with_handle, with_bytes};
 ghost use Rattle.chaos_file.specs.Plan.{plan_read, plan_write};
 ghost use Rattle.chaos_file.specs.Outcome.{Settles, Grows};
 
-use super::Session;
+use super::{Done, Session};
 use crate::answer::{Reply, tell_count};
 use crate::error::FileError;
 use crate::limits::{MAX_CHUNK, MAX_FILE, MAX_FRONT};
 use std::alloc::{AllocError, Global};
 
 impl Session {
+    #[inline(always)]
     fn read_at(&mut self, at: usize, reply: &mut Reply)
         requires within { at < length self.old.handles }
         requires room { length reply.old.items ≤ MAX_FRONT }
@@ -25,7 +27,8 @@ impl Session {
     }
 
     /// READ: the next bytes of a handle, and `EOF` at their end.
-    pub(super) fn read(&mut self, handle: &[u8], reply: &mut Reply) -> Result<(), FileError>
+    #[inline(always)]
+    pub(super) fn read(&mut self, handle: &[u8], reply: &mut Reply) -> Done
         requires { length reply.old.items ≤ MAX_FRONT }
         ensures { Settles (plan_read self.old (handle_named handle.now self.old.handles))
             (record {
@@ -57,6 +60,7 @@ impl Session {
     }
 
     /// Adds bytes to the handle at a place, and tells how many it holds then.
+    #[inline(always)]
     fn write_at(
         &mut self,
         alloc: Global,
@@ -64,7 +68,7 @@ impl Session {
         bytes: &[u8],
         len: usize,
         reply: &mut Reply,
-    ) -> Result<(), FileError>
+    ) -> Done
         requires within { at < length self.old.handles }
         requires len { len ≡ length (handle_at self.old.handles at).bytes + length bytes.now }
         requires room { length reply.old.items ≤ MAX_FRONT }
@@ -89,13 +93,14 @@ impl Session {
     }
 
     /// WRITE: adds bytes to a handle.
+    #[inline(always)]
     pub(super) fn write(
         &mut self,
         alloc: Global,
         handle: &[u8],
         bytes: &[u8],
         reply: &mut Reply,
-    ) -> Result<(), FileError>
+    ) -> Done
         requires bytes { length bytes.now ≤ MAX_CHUNK }
         requires room { length reply.old.items ≤ MAX_FRONT }
         ensures { Settles (plan_write bytes.now self.old (handle_named handle.now self.old.handles))

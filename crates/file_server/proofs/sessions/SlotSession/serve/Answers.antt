@@ -17,14 +17,14 @@ returns g c =
     let found : c.if-ne.self ≡ serving_of c.args.id c.args.at.now.moment c.args.self.now =
     elim c.if-ne.branch [ then-ne w ↦ search rules | else-ne w ↦ search rules ] in
     let turned = c.self-2.view_is ∙ found in
-    let logged : entries' ≡ logged_made c.peer_of-peer.result _ done.result.1 entries =
+    let logged : entries' ≡ logged_made c.peer_of-peer.result _ done.new.made entries =
     elim c.match-made.branch [ in-Some w ↦ search rules | in_default-made w ↦ search rules ] in
-    logged_so store entries entries' c.peer_of-peer.result _ done.result.1 c.args.at.now.moment c.args.id
+    logged_so store entries entries' c.peer_of-peer.result _ done.new.made c.args.at.now.moment c.args.id
     (serving_of c.args.id c.args.at.now.moment c.args.self.now) _ c.args.host.now done.new.host c.args.out.now
     done.new.out c.peer_of-peer.ensures logged
-    (kept_so (report_use store done.result.1)
-    (serving_of c.args.id c.args.at.now.moment c.args.self.now) _ done.new.session
-    c.args.host.now c.args.id c.args.at.now.moment done.new.host c.args.out.now done.new.out done.result.0
+    (kept_so (report_use store done.new.made)
+    (serving_of c.args.id c.args.at.now.moment c.args.self.now) _ done.new.self
+    c.args.host.now c.args.id c.args.at.now.moment done.new.host c.args.out.now done.new.out done.result
     (elim c.match-served.branch [ in-Eof w ↦ search rules | in-Replied w ↦ search rules | in_default w ↦ search rules ]
-    ∙ ap (λ (s : Serving). serving_after s done.new.session done.result.0) turned)
+    ∙ ap (λ (s : Serving). serving_after s done.new.self done.result) turned)
     (rw (← c.deref_mut-session.ensures.value ∙ ap (λ (s : Serving). s.session) turned) done.ensures))
