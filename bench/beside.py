@@ -102,14 +102,15 @@ def instructions(command, script=b""):
     return int(told[1]) if told else None
 
 
-def count_both(name, ours, plain, behind=""):
-    """Prints what both programs take in instructions, or that none were counted."""
-    ours, plain = instructions([ours]), instructions([plain])
-    if ours is None or plain is None:
-        print(f"{name}: instructions aren't counted: neither valgrind nor perf can here", flush=True)
-        return
-    both = f"{ours / 1e6:.0f} million instructions, plain Rust {plain / 1e6:.0f} million"
-    print(f"{name}: the whole run{behind}: {both}, ratio {ours / plain:.2f}", flush=True)
+def count_all(name, ours, rivals):
+    """Prints what our program takes in instructions beside each rival, of what a line says behind its name, or that none were counted."""
+    counted, others = instructions([ours]), [(behind, instructions([rival])) for behind, rival in rivals]
+    for behind, plain in others:
+        if counted is None or plain is None:
+            print(f"{name}: instructions aren't counted: neither valgrind nor perf can here", flush=True)
+            return
+        both = f"{counted / 1e6:.0f} million instructions, plain Rust {plain / 1e6:.0f} million"
+        print(f"{name}: the whole run{behind}: {both}, ratio {counted / plain:.2f}", flush=True)
 
 
 def count_each(name, commands, scripts, count, unit):
@@ -141,7 +142,7 @@ def bench(name):
                 ours, plain = best["chaos", key], best[rival, key]
                 what = key[0].replace("_", " ") + behind
                 print(f"{name}: {what}: {ours:.1f} ns, plain Rust {plain:.1f} ns, ratio {ours / plain:.2f}", flush=True)
-            count_both(name, programs["chaos"], programs[rival], behind)
+        count_all(name, programs["chaos"], [(behind, programs[rival]) for rival, behind in rivals.items()])
 
 
 def main():

@@ -48,28 +48,34 @@ def copiers_of(program, delay):
     return makers | curls | {"scp": Scp, "atftp, window 32": Atftp}
 
 
-def copied(maker, over, way, delay, lost, seed):
-    """The seconds that a copy takes over a line of its own, or None where it didn't end well."""
-    content, copier = content_of(), maker()
-    with tempfile.TemporaryDirectory() as name, over(delay, lost, seed, copier.control) as place:
-        top = pathlib.Path(name)
+def copied(copier, over, way, line_of):
+    """The seconds that a copy takes over a line of its own."""
+    with tempfile.TemporaryDirectory() as name, over(*line_of, copier.control) as place:
+        top, content = pathlib.Path(name), content_of()
         here, far = top / "here", top / "far"
         here.mkdir()
         far.mkdir()
         source, target = (here, far) if way == "put" else (far, here)
         (source / "FILE").write_bytes(content)
-        try:
-            with copier.serving(place, far, top / "scratch"):
-                spent = copier.copied(way, ["FILE"], here).seconds
-        except (OSError, subprocess.SubprocessError) as fault:
-            print(f"    {copier.name}: {way}, {delay * 1000:.0f} ms each way, {lost:.1%} lost: {told_by(fault)}", flush=True)
-            return None
-        got = target / "FILE"
-        return spent if got.is_file() and got.read_bytes() == content else None
+        with copier.serving(place, far, top / "scratch"):
+            spent = copier.copied(way, ["FILE"], here).seconds
+        if (target / "FILE").read_bytes() != content:
+            raise OSError("the file differs")
+        return spent
+
+
+def tried(maker, over, way, delay, lost, seed):
+    """The seconds of a copy; infinite, and said, where it failed."""
+    copier = maker()
+    try:
+        return copied(copier, over, way, (delay, lost, seed))
+    except (OSError, subprocess.SubprocessError) as fault:
+        print(f"    {copier.name}: {way}, {delay * 1000:.0f} ms each way, {lost:.1%} lost: {told_by(fault)}", flush=True)
+        return float("inf")
 
 
 def all_copied(program, over, runs, at_once):
-    """The median seconds by delay, copier, share that is lost and way. Where most copies failed it is None."""
+    """The median seconds by delay, copier, share that is lost and way."""
     jobs, told = {}, {}
     with concurrent.futures.ThreadPoolExecutor(at_once) as pool:
         for delay in DELAYS:
@@ -81,14 +87,10 @@ def all_copied(program, over, runs, at_once):
                 for lost in SHARES:
                     for way in ["put", "get"]:
                         seeds = range(runs if lost else 1)
-                        jobs[delay, name, lost, way] = [pool.submit(copied, maker, over, way, delay, lost, seed) for seed in seeds]
+                        jobs[delay, name, lost, way] = [pool.submit(tried, maker, over, way, delay, lost, seed) for seed in seeds]
     for name, why in told.items():
         print(f"    {name} is left out: {why}", flush=True)
-    figures = {}
-    for key, runs in jobs.items():
-        spent = sorted(run.result() or float("inf") for run in runs)
-        figures[key] = statistics.median_low(spent)
-    return figures
+    return {key: statistics.median_low([run.result() for run in runs]) for key, runs in jobs.items()}
 
 
 def short(seconds):

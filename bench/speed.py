@@ -111,7 +111,11 @@ LIBRARIES = {
             1.3,
             why="A turn makes three walks over the slots in use, and the plain version three over all slots.",
         ),
-        Row("the same, beside plain Rust that walks over none", "turn: turn of 1 connection and 254 free slots, beside no walks"),
+        Row(
+            "the same, beside plain Rust that walks over none",
+            "turn: turn of 1 connection and 254 free slots, beside no walks",
+            counted="turn: the whole run, beside no walks",
+        ),
         Row("255 connections", "turn: turn of 255 connections", 1.3, why="A walk goes over 224 bytes of each connection."),
         Row("the same, beside plain Rust that walks over none", "turn: turn of 255 connections, beside no walks"),
     ],
