@@ -8,3 +8,4 @@ pub mod Inputs
 pub mod Ends
 pub mod FileLines
 pub mod FileSettling
+mod Words

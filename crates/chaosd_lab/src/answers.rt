@@ -15,7 +15,9 @@ use chaosd_io::{NotWritten, WriteBuffer, put_decimal, put_line, put_octal_three,
 ///
 /// # Errors
 /// `NotWritten` if not all of it fits.
+// inlined, so that the words, which are literals of the callers, are stored and not copied by a call
 #[tactic(auto, unfolding(crate::specs::Answers::named_line))]
+#[inline(always)]
 pub fn put_named(out: &mut WriteBuffer, words: &str, name: &str) -> Result<(), NotWritten>
     // If it ends well, the line of these words and this name was printed.
     ensures { OnOk result (out.new ≡ out.old ++ named_line words.now name.now) }
@@ -26,7 +28,9 @@ pub fn put_named(out: &mut WriteBuffer, words: &str, name: &str) -> Result<(), N
 }
 
 /// A word or more, and a number.
+// inlined for the same reason
 #[tactic(auto, unfolding(crate::specs::Answers::numbered_line))]
+#[inline(always)]
 pub fn put_numbered(out: &mut WriteBuffer, words: &str, n: usize) -> Result<(), NotWritten>
     ensures { OnOk result (out.new ≡ out.old ++ numbered_line words.now n) }
 {

@@ -20,11 +20,12 @@ fn with_serve(wrong: BadLine) -> BadLine
     }
 }
 
-/// The event that a line asks for. The bytes of its text lie in `body`.
+/// The event that a line asks for. The bytes of its text lie in the line, or in `body` where it has
+/// escapes.
 ///
 /// # Errors
 /// What is wrong with a line that isn't of the form of an event.
-pub fn file_line_of<'a>(line: &[u8], body: &'a mut Data) -> Result<FileEvent<'a>, BadLine>
+pub fn file_line_of<'a>(line: &'a [u8], body: &'a mut Data) -> Result<FileEvent<'a>, BadLine>
     // The result is `serve`, or the event that the line asks for in `lab`.
     ensures event { option_map file_event (result_ok result) ≡ file_line_of line.now }
     // What is wrong with a line is the same as in `lab`, where `serve` has no form.

@@ -11,13 +11,13 @@ use crate::numbers::{number_of, opcode_of, side_of};
 use crate::{BadLine, LineForm};
 use chaos_lab::Event;
 use chaos_packet::PktNum;
-use chaosd_io::{Data, read_data, why_text};
+use chaosd_io::{Data, data_of, why_text};
 
 /// `S OOO TEXT`, or without the text and the space before it.
 // what most lines of a script are read by is inlined where they are played: calls take some
 // instructions more for each line
 #[inline(always)]
-fn write_of<'a>(line: &[u8], rest: &[u8], body: &'a mut Data) -> Result<Event<'a>, BadLine>
+fn write_of<'a>(line: &[u8], rest: &'a [u8], body: &'a mut Data) -> Result<Event<'a>, BadLine>
     ensures event { option_map happening_of (result_ok result) ≡ write_of rest.now }
     ensures wrong { IfErr result (λ wrong. wrong ≡ wrong_write line.now (cut rest.now)) }
 {
@@ -25,11 +25,11 @@ fn write_of<'a>(line: &[u8], rest: &[u8], body: &'a mut Data) -> Result<Event<'a
         return Err(BadLine::Form(LineForm::Write));
     };
     let (op, text) = field_and_text(rest);
-    if read_data(text, body).is_none() {
+    let Some(data) = data_of(text, body) else {
         return Err(BadLine::Text(why_text(line, text)));
-    }
+    };
     match (side_of(side), opcode_of(op)) {
-        (Some(side), Some(op)) => Ok(Event::Write(side, op, body.as_slice())),
+        (Some(side), Some(op)) => Ok(Event::Write(side, op, data)),
         _ => Err(BadLine::Form(LineForm::Write)),
     }
 }
@@ -74,17 +74,17 @@ fn tick_of<'a>(rest: &[u8]) -> Result<Event<'a>, BadLine>
 }
 
 /// `S TEXT`, or without the text and the space before it.
-fn close_of<'a>(line: &[u8], rest: &[u8], body: &'a mut Data) -> Result<Event<'a>, BadLine>
+fn close_of<'a>(line: &[u8], rest: &'a [u8], body: &'a mut Data) -> Result<Event<'a>, BadLine>
     ensures event { option_map happening_of (result_ok result) ≡ close_of rest.now }
     ensures wrong { IfErr result
         (λ wrong. wrong ≡ wrong_text LineForm.Close line.now (field_and_text rest.now).1) }
 {
     let (side, text) = field_and_text(rest);
-    if read_data(text, body).is_none() {
+    let Some(data) = data_of(text, body) else {
         return Err(BadLine::Text(why_text(line, text)));
-    }
+    };
     match side_of(side) {
-        Some(side) => Ok(Event::Close(side, body.as_slice())),
+        Some(side) => Ok(Event::Close(side, data)),
         None => Err(BadLine::Form(LineForm::Close)),
     }
 }
@@ -167,17 +167,38 @@ pub fn wrong_first(line: &[u8]) -> BadLine
     }
 }
 
-/// The event that a line asks for. The bytes of its text lie in `body`.
+/// The event that a line asks for. The bytes of its text lie in the line, or in `body` where it has
+/// escapes.
 ///
 /// # Errors
 /// What is wrong with a line that isn't of the form of an event.
-#[tactic(auto, unfolding(crate::specs::Event::event_of, crate::specs::Wrong::wrong_of))]
 #[inline(always)]
-pub fn event_of<'a>(line: &[u8], body: &'a mut Data) -> Result<Event<'a>, BadLine>
+pub fn event_of<'a>(line: &'a [u8], body: &'a mut Data) -> Result<Event<'a>, BadLine>
     // The result is the event that the line asks for.
     ensures event { option_map happening_of (result_ok result) ≡ event_of line.now }
     // What is wrong with a line: it is empty or a comment, it begins with no word of the language,
     // its text stands for no bytes, or it isn't of the form of its word.
+    ensures wrong { IfErr result (λ wrong. wrong ≡ wrong_of line.now) }
+{
+    // Most lines begin with these words. To compare a line with one costs less than to look for the
+    // space behind its word.
+    if let Some(rest) = line.strip_prefix(b"deliver ".as_slice()) {
+        return deliver_of(rest);
+    }
+    if let Some(rest) = line.strip_prefix(b"write ".as_slice()) {
+        return write_of(line, rest, body);
+    }
+    if let Some(rest) = line.strip_prefix(b"read ".as_slice()) {
+        return read_of(rest);
+    }
+    event_by_word(line, body)
+}
+
+/// The event that a line asks for, by the word before its first space.
+#[tactic(auto, unfolding(crate::specs::Event::event_of, crate::specs::Wrong::wrong_of))]
+#[inline(never)]
+fn event_by_word<'a>(line: &'a [u8], body: &'a mut Data) -> Result<Event<'a>, BadLine>
+    ensures event { option_map happening_of (result_ok result) ≡ event_of line.now }
     ensures wrong { IfErr result (λ wrong. wrong ≡ wrong_of line.now) }
 {
     let Some((word, rest)) = cut(line) else {
