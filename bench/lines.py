@@ -3,10 +3,10 @@
 
     make bench-lines, or bench/lines.py [PROGRAM [RUNS [AT_ONCE]]]
 
-PROGRAM is bin/chaosd by default. Each figure is the median of RUNS copies, 3 by default, each with a line and a seed of its own; where
-nothing is lost one copy is enough. AT_ONCE copies go on side by side, 4 by default: they wait for the line nearly all the time. The
-server of chaosd sends again after twice the round trip, as its operator is told to say. curl, scp and atftp need a line of devices
-(bench/line.py); TCP grows its windows by cubic, Linux's own choice, and curl also by bbr. What can't run here is said and left out.
+PROGRAM is bin/chaosd by default. Each figure is the median of RUNS copies, 3 by default, each with a line and a seed of its own.
+AT_ONCE copies go on side by side, 12 by default: they wait for the line nearly all the time. The server of chaosd sends again after
+twice the round trip, as its operator is told to say. curl, scp and atftp need a line of devices (bench/line.py); TCP grows its windows
+by cubic, Linux's own choice, and curl also by bbr. What can't run here is said and left out.
 """
 
 import concurrent.futures
@@ -22,7 +22,7 @@ import line  # noqa: E402
 from copiers import FILE_DATA, FILE_LIMIT, Atftp, Chaosd, Curl, Scp, content_of, told_by  # noqa: E402
 
 PROGRAM = pathlib.Path(__file__).resolve().parent.parent / "bin/chaosd"
-RUNS, AT_ONCE = 3, 4
+RUNS, AT_ONCE = 3, 12
 DELAYS, SHARES = [0.020, 0.100], [0, 0.001, 0.01, 0.05]
 WINDOWS, CARRIAGES = [13, 64], [1, 2]
 # with a hundredth lost a copy may take so many times as long as without, where the window is 64
@@ -86,8 +86,7 @@ def all_copied(program, over, runs, at_once):
                     continue
                 for lost in SHARES:
                     for way in ["put", "get"]:
-                        seeds = range(runs if lost else 1)
-                        jobs[delay, name, lost, way] = [pool.submit(tried, maker, over, way, delay, lost, seed) for seed in seeds]
+                        jobs[delay, name, lost, way] = [pool.submit(tried, maker, over, way, delay, lost, seed) for seed in range(runs)]
     for name, why in told.items():
         print(f"    {name} is left out: {why}", flush=True)
     return {key: statistics.median_low([run.result() for run in runs]) for key, runs in jobs.items()}

@@ -74,7 +74,7 @@ LIBRARIES = {
             "window: item in order",
             1.2,
             "window: the whole run",
-            "An `ArrayVec` clears what it drops; a slot that is read goes behind the others.",
+            "A slot that is read goes behind the others, where plain Rust moves an index.",
         ),
         Row("in reversed order", "window: item reversed", 1.2, why="As in order."),
     ],
@@ -124,7 +124,7 @@ PROGRAM = {
     "show": [
         Row("`show`, short lines", "short lines", 1.1),
         Row("long lines", "long lines", 1.1),
-        Row("empty lines", "empty lines", 1.1, why="A report takes one more call; the buffer clears what it handed on."),
+        Row("empty lines", "empty lines", 1.1, why="A report takes one more call."),
         Row("four long packets a line, by version 2", "four long packets a line", 1.1),
         Row("eight short packets a line", "eight short packets a line", 1.1),
     ],
@@ -134,7 +134,7 @@ PROGRAM = {
             "16,000 items in turn",
             1.5,
             "16,000 items in turn",
-            "It keeps what each end wrote and read; the plain one doesn't.",
+            "A packet is copied whole at each step. What each end wrote and read is 6% of the instructions.",
         ),
         Row(
             "64 items, sent again 240 times",
