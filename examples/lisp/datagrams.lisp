@@ -5,7 +5,7 @@
 (defconstant +front-size+ 4 "The octets of the mark and the version.")
 (defconstant +most-packets+ 8)
 (defconstant +most-bundle+ 2020 "The octets of the greatest datagram of version 2.")
-(defconstant +most-sent+ 1472 "The octets of the greatest that is sent: an Ethernet frame takes it whole.")
+(defconstant +most-sent+ 1472 "The octets of the greatest that is sent, in one Ethernet frame.")
 (defconstant +most-datagram+ 2048 "The octets of a buffer for any datagram.")
 
 (defun packet-size (packet) (size-with (length (pkt-data packet))))
