@@ -10,7 +10,7 @@ DIALOGUES := out/checked/random_dialogues
 SEED ?= $(shell date +%s)
 PACKETS ?= 1000000
 
-.PHONY: all help try demo test check fmt fmt-check lint wrong-bodies dialogues pictures bench $(PROGRAM_BENCHES:%=bench-%) $(BENCHES:%=bench-%) dist deb install uninstall clean unstamped current
+.PHONY: all help try demo test check fmt fmt-check lint wrong-bodies dialogues pictures bench $(PROGRAM_BENCHES:%=bench-%) $(BENCHES:%=bench-%) dist deb ncp install uninstall clean unstamped current
 
 all: bin/chaosd ## prove the program and all crates below it, and build bin/chaosd
 
@@ -20,7 +20,7 @@ help: ## list these targets
 # proved again where its stamp doesn't say that it was proved from these sources
 .SECONDEXPANSION:
 bin/chaosd: $$(if $$(shell tools/stamp check bin/chaosd 2>&1),unstamped)
-	@echo "Proving and building bin/chaosd takes some $$((70 / $$(nproc) > 25 ? 70 / $$(nproc) : 25)) minutes on these $$(nproc) cores; 'make try' needs no proof."
+	@echo "Proving and building bin/chaosd takes some $$((74 / $$(nproc) > 28 ? 74 / $$(nproc) : 28)) minutes on these $$(nproc) cores; 'make try' needs no proof."
 	@RT=$(RT) tools/build chaosd --help
 	install -D -m 644 crates/chaosd/out/chaosd.stamp $@.stamp
 	install crates/chaosd/out/chaosd $@
@@ -77,6 +77,14 @@ dist: current ## pack the program, its manual page, documents, examples, dissect
 
 deb: current ## pack the same into a Debian package in out/, which dpkg-deb builds and `apt install ./out/FILE` installs
 	@tools/dist --deb $(PROGRAM) out
+
+ncp: ## prove the library for C, libchaos_ncp.a, and put it into out/ncp with its header and the example `get`: docs/NCP.md
+	@RT=$(RT) tools/build chaos_ncp
+	@mkdir -p out/ncp
+	@install -m 644 crates/chaos_ncp/out/libchaos_ncp.a crates/chaos_ncp/include/chaos_ncp.h out/ncp
+	@cd out/ncp && ar x "$$(dirname "$$(readlink -f "$$(command -v $(RT))")")/../c/liblibc_c.a" heap.pic.o && ar q libchaos_ncp.a heap.pic.o && rm heap.pic.o
+	@$(CC) -std=c11 -O2 -D_POSIX_C_SOURCE=200809L -I out/ncp examples/c/get.c out/ncp/libchaos_ncp.a -o out/ncp/get
+	@echo "out/ncp has libchaos_ncp.a, chaos_ncp.h and get"
 
 # systemd reads units below /usr/local and /usr; the one that is installed names the program where it was put
 install: current ## install the program, proved or tried, its stamp, its manual page, the dissector and the unit for systemd below PREFIX, by default /usr/local

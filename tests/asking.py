@@ -16,6 +16,21 @@ LOGIN = b"T1  LOGIN LISPM\n"
 NOT_KEPT = b"chaosd: handle %s was written and not closed, so its file was not kept\n"
 
 
+HELP = b"""\
+Commands, as you may type them; H is a name of your own for an open file:
+  LOGIN NAME           log in, which is the first command
+  H OPEN READ^PATH     open a file to be read
+  H READ               get the next bytes of the file, at most 448
+  H OPEN WRITE^PATH    open a file to be written
+  H WRITE^TEXT         write at most 448 bytes; ^ is a newline, \\0a a byte
+  H CLOSE              close the file, which stores what was written
+  RENAME^OLD^NEW       rename a file
+  DELETE^PATH          delete a file
+A tid is put in front of each. No command lists the server's files.
+Type quit, or control-D, to end.
+"""
+
+
 class Terminal:
     """A run whose three standard streams are a terminal, which shows no echo."""
 
@@ -75,6 +90,59 @@ class Typing(Case):
         for name, seen, told in zip(["the prompt", "one space", "a key", "LOGIN", "OPEN", "an escape", "WRITE", "the end"], shown, wanted):
             self.check(f"{name} at a terminal", [] if seen.endswith(told) else [f"{seen!r} and not {told!r}"])
         self.check("the run ends", [] if status == DONE else [f"status {status}"])
+
+
+    def test_a_tid_is_put_in_front_of_a_command_that_is_typed_without_one(self):
+        """Where the command has a handle, one space follows the tid, otherwise two. What is sent is shown behind the prompt."""
+        dialogue = [
+            (b"LOGIN LISPM\n", b"> T1  LOGIN LISPM\nT1  LOGIN LISPM\n> "),
+            (b"H OPEN WRITE^A\n", b"> T2 H OPEN WRITE^A\nT2 H OPEN 0\n> "),
+            (b"H WRITE^\\0a b\n", b"> T3 H WRITE^\\0a b\nT3 H WRITE 3\n> "),
+            (b"X9 H WRITE^c\n", b"X9 H WRITE 4\n> "),
+            (b"H CLOSE\n", b"> T4 H CLOSE\nT4 H CLOSE 4\n> "),
+            (b"H CLOSE\n", b"> T5 H CLOSE\nT5 H ERROR NOH No such handle.\n> "),
+            (b"RENAME^A^B\n", b"> T6  RENAME^A^B\nT6  RENAME\n> "),
+            (b"DELETE^.B\n", b"> T7  DELETE^.B\nT7  ERROR ILP Illegal path.\n> "),
+            (b"DELETE^B\n", b"> T8  DELETE^B\nT8  DELETE\n> "),
+            (b"NONSENSE\n", b"  ERROR SYN Bad command syntax.\n> "),
+            (b"H WRITE^" + b"x" * 480 + b"\n", b"  ERROR SYN Bad command syntax.\n> "),
+        ]
+        with serving() as server:
+            terminal = Terminal(server.words())
+            try:
+                terminal.shown(b"> ")
+                for typed, wanted in dialogue:
+                    shown = terminal.typed(typed, wanted)
+                    self.check(f"{typed[:20]!r}", [] if shown == wanted else [f"{shown!r} and not {wanted!r}"])
+                os.write(terminal.master, b"quit\n")
+                status = terminal.process.wait(PATIENCE)
+            finally:
+                terminal.end()
+        self.check("quit ends the run", [] if status == DONE else [f"status {status}"])
+
+    def test_help_shows_what_can_be_typed_and_quit_ends(self):
+        with serving() as server:
+            terminal = Terminal(server.words())
+            try:
+                terminal.shown(b"> ")
+                for word in [b"help\n", b"?\n"]:
+                    shown = terminal.typed(word, b"end.\n> ")
+                    self.check(f"{word!r}", [] if shown == HELP + b"> " else [f"{shown!r}"])
+                shown = terminal.typed(b"T  quit\n", b"command.\n> ")
+                self.check("a command with that word is sent", [] if shown == b"T  ERROR UKC Unknown command.\n> " else [f"{shown!r}"])
+                os.write(terminal.master, b"quit\n")
+                status = terminal.process.wait(PATIENCE)
+                left = terminal.shown(b"nothing")
+            finally:
+                terminal.end()
+        self.check("quit ends the run", ([] if status == DONE else [f"status {status}"]) + ([] if left in (b"", b"quit\n") else [f"{left!r}"]))
+
+    def test_a_script_is_sent_as_it_is(self):
+        """Through a pipe `help`, `quit` and a command without a tid are commands like any other, which FILE refuses."""
+        with serving() as server:
+            bad = b"  ERROR SYN Bad command syntax.\n"
+            ended = run(server.words(), b"LOGIN LISPM\nhelp\nquit\n" + LOGIN)
+        self.check("a script", ended.problems(DONE, bad * 3 + LOGIN, b""))
 
 
 class Kept(Relay):

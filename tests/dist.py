@@ -14,7 +14,7 @@ from tests.support import DONE, LONG, PATIENCE, PROGRAM, ROOT, Case, Ended, at, 
 NAMES = {
     "bin/chaosd", "share/man/man1/chaosd.1", "tools/wireshark/chaosnet.lua", "tools/ladder",
     "README.md", "CHANGELOG.md", "LICENSE-APACHE", "LICENSE-MIT",
-    "examples/hello.file", "examples/chaosd.service", "examples/lab/opening.lab", "docs/PROTOCOL.md",
+    "examples/hello.file", "examples/chaosd.service", "examples/client.hosts", "examples/server.hosts", "examples/lab/opening.lab", "docs/PROTOCOL.md",
     "docs/FILE.md", "docs/SCRIPTS.md", "examples/lisp/chaosd.lisp", "examples/vectors/session.txt",
     "docs/LIBRARY.md", "docs/OPERATING.md", "crates/example_talk/src/main.rt",
 }  # fmt: skip
@@ -27,13 +27,17 @@ def dist(*words):
     return subprocess.run([ROOT / "tools/dist", *words], capture_output=True, text=True, timeout=LONG)
 
 
-def shells_of(page, section, ports=()):
-    """The lines that a page's section has the user type in each shell, with what is printed then; with these ports for its own."""
+def shells_of(page, section):
+    """The lines that a page's section has the user type in each shell, with what is printed then."""
     said = page.read_text().partition(f"\n## {section}\n")[2].partition("\n## ")[0]
-    for number, port in zip((9001, 9002), ports):
-        said = said.replace(f":{number}", f":{port}")
     blocks = re.findall(r"^```text\n(.*?)^```$", said, re.M | re.S)
-    return [[tuple(typed.split("\n", 1)) for typed in re.split(r"^\$ ", block, flags=re.M)[1:]] for block in blocks]
+    shells = [[tuple(typed.split("\n", 1)) for typed in re.split(r"^\$ ", block, flags=re.M)[1:]] for block in blocks]
+    return [shell for shell in shells if shell]
+
+
+def timeless(printed):
+    """What was printed, with the same words for each time and each speed of a copy."""
+    return re.sub(r"[\d.]+ m?s, [\d.]+ [kM]?B/s", "1 s, 1 B/s", printed)
 
 
 def anchors(page):
@@ -65,14 +69,16 @@ def typed(top, words, printed):
         os.close(near)
         os.close(far)
     seen = seen[:-1].decode().replace("\r\n", "\n")
-    is_shown = seen.endswith(printed) if printed else not seen
+    is_shown = timeless(seen).endswith(timeless(printed)) if printed else not seen
     return [] if ended.returncode == 0 and is_shown else [f"{words} ends with {ended.returncode}, and prints {seen!r}"]
 
 
 def tried(command, folder):
     """The words of a unit's command, for a server of this folder at a port of its own that takes no turn."""
     _, serve, *words = shlex.split(command)
-    places = {"0.0.0.0:9001": at(free_ports(1)[0]), "/var/lib/chaosd": str(folder)}
+    table = folder / "hosts"
+    table.write_text(f"401 {at(free_ports(1)[0])} self\n402 {at(9)} laptop\n")
+    places = {"/etc/chaosd/hosts": str(table), "/var/lib/chaosd": str(folder)}
     return [serve, "--turns", "0", *(places.get(word, word) for word in words)]
 
 
@@ -175,7 +181,11 @@ class Dist(Case):
         self.check("the server keeps the file", [] if len(kept) == 1 else [str(list(folder.iterdir()))])
 
     def test_the_two_shells_of_the_readme_print_what_it_says(self):
-        server, client = shells_of(self.top / "README.md", "Moving files", free_ports(2))
+        server, client = shells_of(self.top / "README.md", "Moving files")
+        tables = [self.top / f"examples/{name}.hosts" for name in ("client", "server")]
+        for number, port in zip((9001, 9002, 9003), free_ports(3)):
+            for table in tables:
+                table.write_text(table.read_text().replace(f":{number} ", f":{port} "))
         *before, (serve, _) = server
         problems = [problem for line, printed in before for problem in typed(self.top, shlex.split(line), printed)]
         serving = subprocess.Popen(shlex.split(serve), cwd=self.top, stderr=subprocess.PIPE)

@@ -206,7 +206,7 @@ class Strangers(Case):
     def test_ask_of_a_host_that_is_no_peer_ends_at_once(self):
         own, other = free_ports(2)
         ended = run(["ask", *FOR_LONG, "402", at(own), "401", f"403={at(other)}"], FILE_SCRIPT)
-        problems = ended.problems(REFUSED, NO_REPLY, b"chaosd: host 000401 is no PEER\n")
+        problems = ended.problems(REFUSED, NO_REPLY, b"chaosd: host 401 is no PEER\n")
         self.check("ask of a host that is no peer: told, `no reply`, status 3, at once", problems)
 
     def test_serve_tells_once_of_a_host_that_asks_and_is_no_peer(self):
@@ -220,7 +220,7 @@ class Strangers(Case):
                 for index in (1, 2, 3):
                     stranger.sendto(datagram(RFC, (SERVER, 0), (0o777, index), 5, 0, b"FILE"), ("127.0.0.1", port))
             out, err = server.communicate(timeout=LONG)
-        wanted = b"chaosd: no PEER is given, so nobody is answered\nchaosd: host 000777 asks from %s and is no PEER\n" % at(asks_from).encode()
+        wanted = b"chaosd: no PEER is given, so nobody is answered\nchaosd: host 777 asks from %s and is no PEER\n" % at(asks_from).encode()
         wanted += b"chaosd: 300 turns are over\n"
         problems = Ended(server.returncode, out, said + err).problems(DONE, b"", said + wanted)
         self.check("serve tells once of a host that is no peer and asks, and at its end that its turns are over", problems)

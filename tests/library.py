@@ -13,6 +13,7 @@ PROGRAMS = [
     ROOT / "tests/crates/example_reverse/src/main.rt.in",
     ROOT / "tests/crates/example_echo_udp/src/main.rt.in",
     ROOT / "crates/example_echo/src/main.rt",
+    ROOT / "crates/example_lines/src/main.rt",
 ]
 SIGNATURE = re.compile(r"fn (\w+)::(\w+)(.*)")
 

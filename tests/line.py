@@ -38,6 +38,14 @@ OTHER_FORM = "a Chaosnet address other than this host's own"
 RETRANSMIT_FORM = "a decimal number of milliseconds from 20 to 60000, without leading zeros"
 TIMEOUT_FORM = "a decimal number of seconds from 1 to 3600, without leading zeros"
 ONE_PATH = "takes one PATH alone, unless it ends with /"
+PATTERN_FORM = "a path without * and ?. FILE has no listing: name each file"
+FOLLOWED_FORM = "a Chaosnet address in front of `=*`, such as 402=*: 1 to 6 octal digits, from 1 to 177777"
+HOST_FORM = "a host's name: 1 to 64 letters, digits, hyphens and dots, one of them a letter"
+HOST_PATH_FORM = "a host's name, a colon and a path, such as lispm:A.LISP"
+BARE_HOST_FORM = "a host's name and a colon at the end of the line, such as lispm:"
+ONE_HOST_FORM = "one host in the whole line"
+TABLE = "can't be used in a line that begins with ADDRESS, because such a line has all addresses itself"
+NO_FOLDERS = "FILE has no folders: name the files, as in DIR/*"
 
 BAD_CARRIAGES = ["", "0", "3", "01", "02", "+1", "1 ", " 2", "one", "12"]
 BAD_WINDOWS = ["", "0", "00", "01", "65", "+1", "x", "1x", " 1", "1.5", "0x1", "65536", "65600"]
@@ -45,7 +53,9 @@ BAD_TIMEOUTS = ["", "0", "01", "3601", "+1", "x", "1.5", "65536", "65546"]
 BAD_RETRANSMITS = ["", "0", "19", "020", "60001", "+20", "x", "20ms", " 20", "20.5", "0x20", "65556", "4294967316", "18446744073709551636"]
 BAD_CONTACTS = ["", " ", "FILE X", "FILE ", "č", "A" * 65]
 BAD_LOGINS = ["", "A.B", "A B", "ABCDEFGHIJKLMNOPQ", "č"]
-BAD_PATHS = ["", ".", ".A", "..", "A/B", "/A", "A B", "A*", "č", "A" * 65]
+BAD_PATHS = ["", ".", ".A", "..", "A/B", "/A", "A B", "A+", "č", "A" * 65]
+PATTERNS = ["*", "A*", "?", "A.?"]
+BAD_HOSTS = ["", "4-4", "-", "4.1", "a_b", "a b", "a:", "č", "a" * 65]
 
 HELP = {
     "--help": [
@@ -74,16 +84,19 @@ HELP = {
     "help lab": ["Usage: chaosd lab\n"],
     "help filelab": ["Usage: chaosd filelab\n"],
     "help loop": ["Usage: chaosd loop [OPTIONS]\n"],
-    "help serve": ["Usage: chaosd serve [OPTIONS] <ADDRESS> <UDP> <FOLDER> [PEER]...\n"],
-    "help ask": ["Usage: chaosd ask [OPTIONS] <ADDRESS> <UDP> <TO> [PEER]...\n"],
-    "help get": ["Usage: chaosd get [OPTIONS] <ADDRESS> <UDP> <SERVER> <PATH>...\n"],
-    "help put": ["Usage: chaosd put [OPTIONS] <ADDRESS> <UDP> <SERVER> <LOCAL>...\n"],
+    "help serve": ["Usage: chaosd serve [OPTIONS] FOLDER\n       chaosd serve [OPTIONS] ADDRESS UDP FOLDER [PEER]...\n"],
+    "help ask": ["Usage: chaosd ask [OPTIONS] HOST\n       chaosd ask [OPTIONS] ADDRESS UDP TO [PEER]...\n"],
+    "help get": ["Usage: chaosd get [OPTIONS] HOST:PATH... [LOCAL]\n       chaosd get [OPTIONS] ADDRESS UDP SERVER PATH...\n"],
+    "help put": ["Usage: chaosd put [OPTIONS] LOCAL... HOST:\n       chaosd put [OPTIONS] ADDRESS UDP SERVER LOCAL...\n"],
+    "help delete": ["Usage: chaosd delete [OPTIONS] HOST:PATH...\n       chaosd delete [OPTIONS] ADDRESS UDP SERVER PATH...\n"],
     "serve --help": [
-        "  <ADDRESS>  Chaosnet address of this host: 1 to 6 octal digits, from 1 to\n             177777\n",
-        "  <UDP>      UDP address to receive at: a.b.c.d:port in decimal, with a port\n             from 1 to 65535\n",
-        "  <FOLDER>   Folder to serve\n",
-        "  [PEER]...  Another host, as ADDRESS=UDP in the forms above: at most 32, each\n",
-        "             Chaosnet address once. *=UDP is a bridge to all other hosts\n",
+        "  <WORD>...  FOLDER   Folder to serve. The hosts table has the addresses of this\n",
+        "             If the first word has digits alone, it is ADDRESS:\n",
+        "             ADDRESS  Chaosnet address of this host: 1 to 6 octal digits, from 1\n                      to 177777\n",
+        "             UDP      UDP address to receive at: a.b.c.d:port in decimal, with a\n                      port from 1 to 65535\n",
+        "             FOLDER   Folder to serve\n",
+        "             PEER     Another host, as ADDRESS=UDP in the forms above: at most\n",
+        "                      other hosts. ADDRESS=* is a host that is answered where\n",
         "--turns <N>         End the server after N turns, 0 to 1000000000; an idle\n",
         "                    turn takes some 10 ms [default: 1000000000]\n",
         "--chudp             Use CHUDP, the framing of cbridge and other Chaosnet\n",
@@ -91,7 +104,9 @@ HELP = {
         "--window <N>        Give each connection windows of N packets, 1 to 64:\n",
         "                    a client may have N commands in flight [default: 13]\n",
         "--retransmit <MS>   Retransmit unacknowledged packets after MS\n                          milliseconds, 20 to 60000 [default: 500]\n",
-        "--quiet             Log only errors, as --log quiet does\n",
+        "-q, --quiet             Log only errors, as --log quiet does\n",
+        "--hosts <FILE>      Read addresses from the hosts table FILE; not in a\n                          line that begins with ADDRESS\n",
+        "  chaosd serve files\n",
         "--log-time          Begin each log line with the time, in UTC\n",
         "--only-peers        Accept datagrams only from the UDP address of a PEER\n",
         "--read-only         Refuse all changes: a client that writes, renames or\n",
@@ -100,41 +115,50 @@ HELP = {
     ],
     "ask --help": [
         "--contact <NAME>     Ask for the contact NAME: 1 to 64 printable ASCII\n                           characters without a space [default: FILE]\n",
-        "--timeout <SECONDS>  Wait up to SECONDS for each reply, 1 to 3600\n",
+        "-t, --timeout <SECONDS>  Wait up to SECONDS for each reply, 1 to 3600\n",
+        "-q, --quiet              Report only what failed\n",
+        "-v, --verbose            Report more, even if standard error is not a terminal\n",
         "                     (otherwise 1000 turns, which take 10 to 17 seconds)\n",
         "--retransmit <MS>    Retransmit unacknowledged packets after MS\n",
         "--any-source         Accept datagrams from any UDP address, for a server\n                           with several interfaces\n",
         "--strict             End the run at the first ERROR reply, with status 3\n",
-        "  <TO>       Chaosnet address of the host to ask, in the form of ADDRESS\n",
+        "             TO       Chaosnet address of the host to ask, in the form of\n                      ADDRESS\n",
+        "  chaosd ask lispm < script\n",
     ],
     "loop --help": [
         "--carriage <N>  Send datagrams of version N: 1 carries one packet,\n                      2 carries several [default: 1]\n",
     ],
     "get --help": [
-        "  <SERVER>   Host to call, as ADDRESS=UDP in the forms above\n",
-        "  <PATH>...  Files on the server, each of 1 to 64 letters, digits, dots,\n             hyphens and underscores, without a leading dot\n",
+        "             SERVER   Host to call, as ADDRESS=UDP in the forms above\n",
+        "             PATH     File on the server, of 1 to 64 letters, digits, dots,\n                      hyphens and underscores, without a leading dot\n",
+        "             LOCAL    Where the files go, as --output says; . is this folder\n",
+        "  chaosd get lispm:A.LISP lispm:B.LISP src/\n",
         "--bridge <ADDRESS>   Name ADDRESS, the bridge's own Chaosnet address, as\n",
         "--contact <NAME>     Ask for the contact NAME: 1 to 64 printable ASCII\n",
         "--login <NAME>       Log in as the user NAME:\n                           1 to 16 letters and digits [default: CHAOSD]\n",
         "--window <N>         Keep up to N commands in flight, 1 to 64; the\n                           server's window may allow fewer [default: 64]\n",
         "                     (otherwise 1000 turns and at least 10 seconds)\n",
         "--any-source         Accept datagrams from any UDP address, for a server\n",
-        "--output <LOCAL>     Write the file to LOCAL, where - is standard output;\n",
+        "-o, --output <LOCAL>     Write the file to LOCAL, where - is standard output;\n",
         "--text               Translate a text between ASCII and the Lisp machine's\n",
-        "--verbose            Print a line with the size and the SHA-256 of each\n                           file, even if standard error is not a terminal\n",
+        "-v, --verbose            Print a line with the size and the SHA-256 of each\n                           file, even if standard error is not a terminal\n",
     ],
     "put --help": [
-        "  <LOCAL>...  Local files, each put under its last name if that is a PATH: 1 to\n",
+        "  <WORD>...  LOCAL    Local file, put under its last name if that is a PATH:\n",
+        "  chaosd put src/A.LISP src/B.LISP lispm:\n",
+        "written as ./402 if it is the first.\n",
         "standard input, and needs --as\n",
         "--rename             Rename a file whose name is no PATH: write _ for each\n",
         "--as <PATH>          Put the one local file under the name PATH\n",
     ],
     "delete --help": [
         "--any-source         Accept datagrams from any UDP address, for a server\n",
+        "  chaosd delete lispm:A.LISP lispm:B.LISP\n",
         "  chaosd delete 402 127.0.0.1:9002 401=127.0.0.1:9001 A.LISP B.LISP\n",
     ],
     "rename --help": [
-        "Usage: chaosd rename [OPTIONS] <ADDRESS> <UDP> <SERVER> <OLD> <NEW>\n",
+        "Usage: chaosd rename [OPTIONS] HOST:OLD NEW\n       chaosd rename [OPTIONS] ADDRESS UDP SERVER OLD NEW\n",
+        "  chaosd rename lispm:A.LISP B.LISP\n",
         "--any-source         Accept datagrams from any UDP address, for a server\n",
     ],
     "ask nonsense -h": ["Usage: chaosd ask"],
@@ -268,7 +292,7 @@ class Line(Case):
             self.check(f"{words[0]} has no --any-source", ended.problems(BAD_LINE, b"", [b"unexpected argument '--any-source' found"]))
         for words in [["ask", "402", "127.0.0.1:1"], ["get", *ADDRESSES], ["put", *ADDRESSES], ["delete", *ADDRESSES], ["rename", *ADDRESSES]]:
             ended = run([words[0], "--any-source", *words[1:]])
-            self.check(f"{words[0]} has it", ended.problems(BAD_LINE, b"", [b"required arguments were not provided"]))
+            self.check(f"{words[0]} has it", ended.problems(BAD_LINE, b"", [b"the line needs "]))
 
     def test_paths_of_delete_and_rename_are_paths_of_file(self):
         for text in BAD_PATHS:
@@ -276,6 +300,56 @@ class Line(Case):
             is_bad(self, ["rename", *ADDRESSES, text, "A"], text, "OLD", PATH_FORM)
             is_bad(self, ["rename", *ADDRESSES, "A", text], text, "NEW", PATH_FORM)
         is_bad(self, ["delete", *ADDRESSES, "B", "A", "A"], "A", "PATH", PATH_ONCE_FORM)
+
+    def test_file_has_no_listing_and_no_folders(self):
+        for text in PATTERNS:
+            is_bad(self, ["get", *ADDRESSES, "A", text], text, "PATH", PATTERN_FORM)
+            is_bad(self, ["delete", f"lispm:{text}"], text, "PATH", PATTERN_FORM)
+            is_bad(self, ["rename", f"lispm:{text}", "A"], text, "OLD", PATTERN_FORM)
+        for words in [["-r", "d", "lispm:"], ["--recursive", *ADDRESSES, "d"], ["d", "-r", "lispm:"]]:
+            is_refused(self, ["put", *words], f"the flag '--recursive' can't be used: {NO_FOLDERS}")
+
+    def test_a_line_without_addresses_names_one_host(self):
+        for text in BAD_HOSTS:
+            is_bad(self, ["ask", "--", text], text, "HOST", HOST_FORM)
+            is_bad(self, ["put", "--", "A", f"{text}:B"], f"{text}:B", "HOST:", BARE_HOST_FORM)
+            if text != "a:":
+                is_bad(self, ["delete", "--", f"{text}:A"], f"{text}:A", "HOST:PATH", HOST_PATH_FORM)
+        for words in [["put", "A", "B"], ["put", "A", "lispm"], ["put", "lispm:A", "A"]]:
+            is_bad(self, words, words[-1], "HOST:", BARE_HOST_FORM)
+        for words in [["get", "A", "lispm:B"], ["get", "A", "B"], ["delete", "A"], ["rename", "A", "B"]]:
+            is_bad(self, words, words[1], "HOST:PATH", HOST_PATH_FORM)
+        is_bad(self, ["get", "lispm:A", "B", "lispm:C"], "B", "HOST:PATH", HOST_PATH_FORM)
+        is_bad(self, ["get", "lispm:A", "LISPM:B", "its:C"], "its:C", "HOST:PATH", ONE_HOST_FORM)
+        is_refused(self, ["get", "A"], "the line needs HOST:PATH in front of LOCAL")
+        is_refused(self, ["put", "lispm:"], "the line needs LOCAL in front of HOST:")
+        is_refused(self, ["rename", "lispm:A"], "the line needs NEW behind HOST:OLD")
+        for words in [["ask", "lispm", "x"], ["serve", "files", "x"], ["rename", "lispm:A", "B", "x"]]:
+            is_refused(self, words, "unexpected argument 'x' found")
+
+    def test_files_go_to_one_place(self):
+        is_misfit(self, ["get", "-o", "x", "lispm:A", "y"], "--output x", "can't be used where the last word says where the files go")
+        is_misfit(self, ["get", "lispm:A", "lispm:B", "y"], "LOCAL y", ONE_PATH)
+        is_misfit(self, ["get", "-o", "y", "lispm:A", "lispm:B"], "--output y", ONE_PATH)
+
+    def test_a_line_with_addresses_has_no_table(self):
+        served, asked = ["serve", "401", "127.0.0.1:1", "d"], ["ask", "402", "127.0.0.1:1", "401"]
+        for words in [served, asked, ["get", *ADDRESSES, "A"], ["put", *ADDRESSES, "A"], ["delete", *ADDRESSES, "A"], ["rename", *ADDRESSES, "A", "B"]]:
+            is_misfit(self, [words[0], "--hosts", "h", *words[1:]], "--hosts h", TABLE)
+
+    def test_a_host_that_is_followed_is_a_peer_of_serve(self):
+        served = ["serve", "401", "127.0.0.1:1", "d"]
+        for text in ["=*", "0=*", "8=*", "*=*", "200000=*"]:
+            is_bad(self, [*served, text], text, "PEER", FOLLOWED_FORM)
+        for words in [["402=*", "000402=*"], ["402=127.0.0.1:2", "402=*"]]:
+            is_bad(self, [*served, *words], words[1], "PEER", "each Chaosnet address once")
+        many = [f"{address:o}=*" for address in range(1, 34)]
+        is_bad(self, [*served, *many], "41=*", "PEER", "at most 32 peers")
+        is_bad(self, [*served, "77=127.0.0.1:2", *many], "40=*", "PEER", "at most 32 peers")
+        why = "can't be used with '--only-peers', because no UDP address of that host is known"
+        is_misfit(self, [*served, "--only-peers", "403=127.0.0.1:2", "402=*"], "PEER 402=*", why)
+        why = "can't be used, because ask sends first and needs a UDP address"
+        is_misfit(self, ["ask", "402", "127.0.0.1:1", "401", "401=*"], "PEER 401=*", why)
 
     def test_a_carriage_is_1_or_2(self):
         """The same for the carriage of each command that has it."""
@@ -311,15 +385,21 @@ class Line(Case):
         """The first bad word is reported with the usage of its subcommand; clap reports its own mistakes."""
         wanted = (
             f"error: invalid value 'x' for '--turns': expected {TURNS_FORM}\n\n"
-            "Usage: chaosd serve [OPTIONS] <ADDRESS> <UDP> <FOLDER> [PEER]...\n\nFor more information, try '--help'.\n"
+            "Usage: chaosd serve [OPTIONS] FOLDER\n       chaosd serve [OPTIONS] ADDRESS UDP FOLDER [PEER]...\n\nFor more information, try '--help'.\n"
         )
         ended = run(["serve", "--turns", "x", "0", "u", "d", "p"])
         self.check("the first bad word is reported with its usage", ended.problems(BAD_LINE, b"", wanted.encode()))
         for words, piece in [
             (["nonsense"], b"unrecognized subcommand 'nonsense'"),
-            (["serve", "401", "127.0.0.1:1"], b"  <FOLDER>\n"),
-            (["get", *ADDRESSES], b"  <PATH>...\n"),
-            (["put", *ADDRESSES], b"  <LOCAL>...\n"),
+            (["put"], b"  <WORD>...\n"),
+            (["serve", "401", "127.0.0.1:1"], b"error: the line needs FOLDER behind UDP\n"),
+            (["ask", "401", "127.0.0.1:1"], b"error: the line needs TO behind UDP\n"),
+            (["get", "402"], b"error: the line needs UDP behind ADDRESS\n"),
+            (["get", *ADDRESSES[:2]], b"error: the line needs SERVER behind UDP\n"),
+            (["get", *ADDRESSES], b"error: the line needs PATH behind SERVER\n"),
+            (["put", *ADDRESSES], b"error: the line needs LOCAL behind SERVER\n"),
+            (["rename", *ADDRESSES, "A"], b"error: the line needs NEW behind OLD\n"),
+            (["rename", *ADDRESSES, "A", "B", "C"], b"error: unexpected argument 'C' found\n"),
             (["get", "--version"], b"unexpected argument '--version' found"),
         ]:
             self.check(f"`chaosd {' '.join(words)}`: a mistake is reported", run(words).problems(BAD_LINE, b"", [piece]))

@@ -110,10 +110,13 @@ class Sources(Case):
     def test_what_is_no_file_is_refused_by_name_and_the_next_is_put(self):
         with serving() as server, folder() as here:
             (here / "G").write_bytes(b"g")
-            for kind, hint in [("folder", ""), ("fifo", "; - reads standard input"), ("socket", "; - reads standard input")]:
+            for kind, told in [
+                ("folder", b"chaosd: folder is a folder; FILE has no folders: name its files, as in folder/*\n"),
+                ("fifo", b"chaosd: can't open fifo: it is a fifo; - reads standard input\n"),
+                ("socket", b"chaosd: can't open socket: it is a socket; - reads standard input\n"),
+            ]:
                 made(here / kind, kind)
                 ended = copied(server, "put", kind, "G", cwd=here)
-                told = f"chaosd: can't open {kind}: it is a {kind}{hint}\n".encode()
                 problems = ended.problems(FAULT, b"", told) + stored_problems(server.folder / "G", b"g")
                 problems += ["it was put"] if (server.folder / kind).exists() else []
                 self.check(f"put of a {kind}: reported, status 1, and the next is put", problems)
@@ -245,26 +248,33 @@ class Closed(Case):
             self.check("serve with standard input closed", problems)
 
 
+def told_of(name, content):
+    """What `--verbose` reports of a file that was copied."""
+    digest = hashlib.sha256(content).hexdigest().encode()
+    return rb"%s %d bytes, (\d+ ms|\d+\.\d s), \d+ k?B/s, SHA-256 %s\n" % (name.encode(), len(content), digest)
+
+
 class Verbose(Case):
     """What is told of each file where that is asked for, wherever standard error goes."""
 
     def test_each_file_has_a_line_with_its_size_and_digest(self):
         contents = {"A": b"", "B": b"(B)", "C": mixed_content(20_000)}
         with serving() as server, folder() as here:
-            lines = [b"%s %d bytes, SHA-256 %s\n" % (name.encode(), len(it), hashlib.sha256(it).hexdigest().encode()) for name, it in contents.items()]
+            lines = [told_of(name, it) for name, it in contents.items()]
+            bound = rb"chaosd: the server's window of 13 bounds this copy; serve --window 64 lets more commands be in flight\n"
             for name, content in contents.items():
                 (here / name).write_bytes(content)
             ended = copied(server, "put", *contents, options=["--verbose"], cwd=here)
-            self.check("put --verbose", ended.problems(DONE, b"", b"".join(lines)))
+            self.check("put --verbose", told_problems(ended, b"".join(lines) + bound, DONE))
             for name in contents:
                 (here / name).unlink()
             ended = copied(server, "get", *contents, "NONE", options=["--verbose"], cwd=here)
-            self.check("get --verbose", ended.problems(REFUSED, b"", b"".join(lines) + b"chaosd: NONE: FNF No such file.\n"))
+            self.check("get --verbose", told_problems(ended, b"".join(lines) + rb"chaosd: NONE: FNF No such file\.\n" + bound))
 
     def test_of_a_text_it_is_the_local_file_that_is_told(self):
         text = b"(A)\n\tB"
-        told = b"T %d bytes, SHA-256 %s\n" % (len(text), hashlib.sha256(text).hexdigest().encode())
+        told = told_of("T", text)
         with serving() as server, folder() as here:
             (here / "T").write_bytes(text)
-            self.check("put --text --verbose", copied(server, "put", "T", options=["--text", "--verbose"], cwd=here).problems(DONE, b"", told))
-            self.check("get --text --verbose", copied(server, "get", "T", options=["--text", "--verbose"], cwd=here).problems(DONE, b"", told))
+            self.check("put --text --verbose", told_problems(copied(server, "put", "T", options=["--text", "--verbose"], cwd=here), told, DONE))
+            self.check("get --text --verbose", told_problems(copied(server, "get", "T", options=["--text", "--verbose"], cwd=here), told, DONE))

@@ -56,7 +56,7 @@ def changes(server):
 
 def told_of(server):
     """What is wanted of `CHANGES`, beside the file that is read."""
-    front = f"host 000402 at {at(server.peers[0])}"
+    front = f"host 402 at {at(server.peers[0])}"
     return [f"{front} wrote OLD, 3 bytes", f"{front} replaced OLD, 0 bytes", f"{front} renamed OLD to NEW", f"{front} deleted NEW", f"{front} could not delete NEW: no such file"]
 
 
@@ -77,7 +77,7 @@ class Changes(Case):
         with serving(options=["--log", "all"]) as server:
             problems, seen = changes(server)
             wanted = told_of(server)
-            wanted.insert(3, f"host 000402 at {at(server.peers[0])} read NEW, 0 bytes")
+            wanted.insert(3, f"host 402 at {at(server.peers[0])} read NEW, 0 bytes")
             self.check_told("log all", wanted, seen, problems)
 
     def test_log_quiet_is_as_quiet(self):
@@ -99,7 +99,7 @@ class Changes(Case):
             for process in running:
                 process.communicate(timeout=LONG)
             told = without_connections(ended(server, connections=4))
-            seen = [re.fullmatch(r"host 00040(\d) at (\S+) wrote F(\d)\.\d+, 0 bytes", line) for line in told]
+            seen = [re.fullmatch(r"host 40(\d) at (\S+) wrote F(\d)\.\d+, 0 bytes", line) for line in told]
             right = [found and int(found[1]) == int(found[3]) + 2 and found[2] == at(server.peers[int(found[3])]) for found in seen]
             problems = [] if len(seen) == 160 and all(right) else [f"it said {told}"]
             self.check("160 files of four clients", problems)
@@ -122,7 +122,7 @@ class Changes(Case):
             problems = [] if run(server.words(), script).status == DONE else ["the script did not end well"]
             got = run(["get", "402", at(server.peers[0]), f"401={at(server.port)}", "NONE"])
             problems += [] if got.status == REFUSED else [f"get ended with {got.status}"]
-            front = f"host 000402 at {at(server.peers[0])} could not"
+            front = f"host 402 at {at(server.peers[0])} could not"
             self.check_told("failed", [f"{front} {line}" for line in [*wanted, wanted[0]]], without_connections(ended(server, connections=2)), problems)
 
 
@@ -178,7 +178,7 @@ class Flooding(Case):
             problems = [] if self.counts(lines) else ["nothing was left out"]
             problems += [] if all(count <= 2 * self.LIMIT for count in seconds.values()) else [f"too many lines: {seconds}"]
             problems += [] if self.accounted(lines) == self.LINES * floods else [f"{self.accounted(lines)} lines of {floods} floods"]
-            strangers = [line for line in lines if "host 000500 asks from" in line]
+            strangers = [line for line in lines if "host 500 asks from" in line]
             problems += [] if len(strangers) == 1 else ["the stranger is lost in the flood"]
             self.check("a flood of requests", problems)
 
@@ -242,13 +242,13 @@ class Asking(Case):
             return line, ended(server, last=line)[1:]
 
     def test_a_peer_that_asks_from_another_udp_address_is_told_once(self):
-        line = "chaosd: host 000402 asks from {}, and is answered at {}, where its PEER is"
+        line = "chaosd: host 402 asks from {}, and is answered at {}, where its PEER is"
         wanted, seen = self.told_to("402", line.format)
         problems = [] if seen.count(wanted) == 1 else [f"it said {seen}"]
         self.check("from where, and where it is answered", problems)
 
     def test_a_host_that_is_no_peer_is_told_once_with_its_udp_address_and_opens_nothing(self):
-        wanted, seen = self.told_to("403", "chaosd: host 000403 asks from {} and is no PEER".format)
+        wanted, seen = self.told_to("403", "chaosd: host 403 asks from {} and is no PEER".format)
         self.check("a stranger", [] if seen == [wanted] else [f"it said {seen}"])
 
     def test_only_peers_drops_what_comes_from_no_peers_socket(self):
@@ -288,7 +288,7 @@ class Page(Case):
             problems += [] if run(["get", "--output", here / "none", "403", at(far), to, "B.LISP"]).status == REFUSED else ["B.LISP is there"]
             for address, other in zip(["404", "402"], others):
                 run(["get", "--timeout", "3", "--output", here / "none", address, at(other), to, "A.LISP"])
-            last = f"chaosd: host 000402 asks from {at(others[1])}, and is answered at {at(near)}, where its PEER is"
+            last = f"chaosd: host 402 asks from {at(others[1])}, and is answered at {at(near)}, where its PEER is"
             log = [shape(line) for line in ended(server, last=last)]
         rest = iter(log)
         problems += [f"no {line!r}, in its turn, in {log}" for line in wanted if line not in rest]
@@ -313,15 +313,15 @@ class Beginning(Case):
         self.check(name, [] if seen == [f"chaosd: {line}" for line in wanted] else [f"it said {seen}"])
 
     def test_its_peers_are_named(self):
-        first = "host 000401 serves HERE at OWN to 403=127.0.0.1:9 402=OTHER"
+        first = "host 401 serves HERE at OWN to 403=127.0.0.1:9 402=OTHER"
         self.check_first("two peers", ["403=127.0.0.1:9", "402=OTHER"], first)
 
     def test_what_can_answer_nobody_is_told(self):
-        self.check_first("no peer", [], "host 000401 serves HERE at OWN", "no PEER is given, so nobody is answered")
+        self.check_first("no peer", [], "host 401 serves HERE at OWN", "no PEER is given, so nobody is answered")
         itself = "PEER 401 has this host's own Chaosnet address, so what is sent there comes back here"
-        self.check_first("itself", ["401=OTHER"], "host 000401 serves HERE at OWN to 401=OTHER", itself)
+        self.check_first("itself", ["401=OTHER"], "host 401 serves HERE at OWN to 401=OTHER", itself)
         own = "PEER 402 is at this host's own UDP address, so it is never answered"
-        self.check_first("its own UDP address", ["402=OWN"], "host 000401 serves HERE at OWN to 402=OWN", own)
+        self.check_first("its own UDP address", ["402=OWN"], "host 401 serves HERE at OWN to 402=OWN", own)
 
     def test_a_level_that_is_none_is_a_bad_line(self):
         (own,) = free_ports(1)
@@ -347,7 +347,7 @@ class ReadOnly(Case):
             problems += put.problems(REFUSED, b"", [b"STF Store fault."])
             left = {path.name: path.read_bytes() for path in server.folder.iterdir()}
             problems += [] if left == {"A": b"(A)", "x": b"1"} else [f"there are {left}"]
-            front = f"host 000402 at {at(server.peers[0])} could not"
+            front = f"host 402 at {at(server.peers[0])} could not"
             wanted = [f"{front} {what}: the server is read-only" for what in ("write A", "rename A to B", "delete A", "write x")]
             seen = without_connections(ended(server, connections=2))
             problems += [] if seen == wanted else [f"it logged {seen} and not {wanted}"]

@@ -205,13 +205,13 @@ class Vanished(Case):
 
 
 # What `serve` tells of a connection.
-OPENS, ENDS = b"chaosd: host 000402 opens connection %06o\n", b"chaosd: connection %06o of host 000402 ends: "
+OPENS, ENDS = b"chaosd: host 402 opens connection %06o\n", b"chaosd: connection %06o of host 402 ends: "
 
 
 def of_a_connection(server):
     """The next line that a server tells of a connection."""
     line = line_of(server.process.stderr)
-    while line.startswith(b"chaosd: host 000402 at "):
+    while line.startswith(b"chaosd: host 402 at "):
         line = line_of(server.process.stderr)
     return line
 

@@ -22,7 +22,7 @@ class Nobody(Case):
 
     def test_ask_without_a_peer_ends(self):
         (own,) = free_ports(1)
-        problems = asked(["ask", "402", at(own), "401"], FILE_SCRIPT).problems(REFUSED, NO_REPLY, [b"host 000401 is no PEER"])
+        problems = asked(["ask", "402", at(own), "401"], FILE_SCRIPT).problems(REFUSED, NO_REPLY, [b"host 401 is no PEER"])
         self.check("ask without a peer: `no reply` once, status 3, and why on standard error", problems)
 
     def test_ask_of_a_peer_that_is_not_there_ends_after_its_turns(self):

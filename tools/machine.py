@@ -21,6 +21,11 @@ def free_bytes():
     return min(found)
 
 
+def slots():
+    """How many proofs have memory: one at least."""
+    return max(1, int(0.85 * free_bytes() / PROOF_BYTES))
+
+
 def lanes():
     """How many proofs have a processor and memory: one at least."""
-    return max(1, min(len(os.sched_getaffinity(0)), int(0.85 * free_bytes() / PROOF_BYTES)))
+    return min(len(os.sched_getaffinity(0)), slots())

@@ -2,12 +2,13 @@
 use Rattle.std.proofs.Common.{◌≡◌, ℕ, Bool, List, [], ◌∷◌, ◌++◌, Option, Some, None, refl, ap, ap₂, sym, subst, ◌∙◌, append_assoc}
 use Rattle.chaos_link.specs.Datagram.{fault_of}
 use Rattle.chaos_link.specs.declared.fault.LinkFault.{LinkFault}
+use Rattle.chaos_link.specs.Keeper.{Becomes, stays}
 use Rattle.chaos_link.specs.Link.{Addressed, Ask, Asks, Receive, Send, to_send}
-use Rattle.chaos_link.specs.Udp.{Outgoing, SocketAsk, UdpView, outgoing_of, outgoing_to}
-use Rattle.chaos_link.specs.Peers.{socket_of}
-use Rattle.chaos_link.proofs.Asked.{asks_none}
+use Rattle.chaos_link.specs.Udp.{AsksSocket, Outgoing, SocketAsk, UdpView, datagrams_in, outgoing_of, outgoing_to}
+use Rattle.chaos_link.specs.Peers.{PeersView, socket_of}
+use Rattle.chaos_link.proofs.Asked.{asks_none, fixed_sends}
 use Rattle.chaos_chudp.specs.Hops.{HopsView}
-use Rattle.chaos_chudp.specs.Link.{AsksBeneath, ChudpView, SocketSendsForms, asks_over, form_by, form_of, form_to, forms_of, sends_in}
+use Rattle.chaos_chudp.specs.Link.{AsksBeneath, ChudpView, SocketSendsForms, SocketSendsFormsToFixedPeers, asks_over, form_by, form_of, form_to, forms_of, sends_in}
 
 over_both : (hops : HopsView) (me : ℕ) (xs ys : List Ask)
     → asks_over hops me (xs ++ ys) ≡ asks_over hops me xs ++ asks_over hops me ys
@@ -67,32 +68,46 @@ none_sent asked link to bytes faulty =
 
 -- ---- over a socket
 
-module _ {S : Type 0} (link : UdpView S) where
-  out_behind : (ds : List Addressed) (xs ys : List Ask) → outgoing_of link.peers xs ≡ outgoing_of link.peers ys
-      → outgoing_of link.peers (to_send ds ++ xs) ≡ outgoing_of link.peers (to_send ds ++ ys)
+module _ (peers : PeersView) where
+  out_behind : (ds : List Addressed) (xs ys : List Ask) → outgoing_of peers xs ≡ outgoing_of peers ys
+      → outgoing_of peers (to_send ds ++ xs) ≡ outgoing_of peers (to_send ds ++ ys)
   out_behind [] xs ys same = same
   out_behind (d ∷ ds) xs ys same =
-      ap (λ (l : List Outgoing). outgoing_to (socket_of d.to link.peers) d.bytes ++ l) (out_behind ds xs ys same)
+      ap (λ (l : List Outgoing). outgoing_to (socket_of d.to peers) d.bytes ++ l) (out_behind ds xs ys same)
 
   sends_both : (xs ys : List Addressed) → to_send (xs ++ ys) ≡ to_send xs ++ to_send ys
   sends_both [] ys = refl
   sends_both (x ∷ xs) ys = ap (λ (l : List Ask). Send x ∷ l) (sends_both xs ys)
 
   out_are_forms : (hops : HopsView) (me : ℕ) (asks : List Ask)
-      → outgoing_of link.peers (asks_over hops me asks) ≡ outgoing_of link.peers (to_send (forms_of hops me (sends_in asks)))
+      → outgoing_of peers (asks_over hops me asks) ≡ outgoing_of peers (to_send (forms_of hops me (sends_in asks)))
   out_are_forms hops me [] = refl
   out_are_forms hops me (Send datagram ∷ asks) =
       out_behind (form_of hops me datagram) (asks_over hops me asks) (to_send (forms_of hops me (sends_in asks)))
       (out_are_forms hops me asks)
-      ∙ ap (outgoing_of link.peers) (sym (sends_both (form_of hops me datagram) (forms_of hops me (sends_in asks))))
+      ∙ ap (outgoing_of peers) (sym (sends_both (form_of hops me datagram) (forms_of hops me (sends_in asks))))
   out_are_forms hops me (Receive may_wait ∷ asks) = out_are_forms hops me asks
 
-pub socket_sends : {S : Type 0} (asked : S → S → List SocketAsk → Type 0)
-    → ((socket : S) → asked socket socket []) → SocketSendsForms asked
-socket_sends asked began old new asks step =
-    let now = step.goes old [] (record {
-      me = refl;
-      hops = refl;
-      beneath = record { peers = refl; socket_asks = []; socket_asked = began old.inner.socket; outgoing = refl };
-    }) in
-    (now.beneath.socket_asks, now.beneath.socket_asked, now.beneath.outgoing ∙ out_are_forms old.inner old.hops old.me asks)
+-- what was asked of the link since it was as it is
+asks_from : {S K : Type 0} (asked : S → S → List SocketAsk → Type 0) (becomes : Becomes K)
+    → ((socket : S) → asked socket socket []) → (link : ChudpView (UdpView S K))
+    → AsksBeneath (AsksSocket asked becomes) link link []
+asks_from asked becomes began link = record {
+  me = refl;
+  hops = refl;
+  beneath = record { socket_asks = []; socket_asked = began link.inner.socket; sends = (refl, refl, refl) };
+}
+
+pub socket_sends : {S K : Type 0} (asked : S → S → List SocketAsk → Type 0) (becomes : Becomes K)
+    → ((socket : S) → asked socket socket []) → SocketSendsForms asked becomes
+socket_sends asked becomes began old new asks step =
+    let now = step.goes old [] (asks_from asked becomes began old) in
+    (now.beneath.socket_asks, now.beneath.socket_asked, now.beneath.sends)
+
+pub socket_sends_to_fixed : {S : Type 0} (asked : S → S → List SocketAsk → Type 0)
+    → ((socket : S) → asked socket socket []) → SocketSendsFormsToFixedPeers asked
+socket_sends_to_fixed asked began old new asks step =
+    let now = socket_sends asked stays began old new asks step in
+    let sends = fixed_sends old.inner.keeper old.inner.peers (asks_over old.hops old.me asks) new.inner.keeper new.inner.peers
+    (datagrams_in now.0) now.2 in
+    (now.0, now.1, sends.1 ∙ out_are_forms old.inner.peers old.hops old.me asks)

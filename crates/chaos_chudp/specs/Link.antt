@@ -2,7 +2,9 @@
 use Rattle.std.specs.Prelude.{◌≡◌, ℕ, ◌<◌, All, List, [], ◌∷◌, ◌++◌, length, take, Option, Some, None}
 use Rattle.chaos_link.specs.Datagram.{fault_of}
 use Rattle.chaos_link.specs.Link.{Addressed, Ask, Asks, Send, Receive, QueueView, to_send, without_first}
-use Rattle.chaos_link.specs.Udp.{AsksSocket, SocketAsk, UdpView, datagrams_in, outgoing_of}
+use Rattle.chaos_link.specs.Keeper.{Becomes, stays}
+use Rattle.chaos_link.specs.Udp.{AsksSocket, SendsBy, SocketAsk, UdpView, datagrams_in, outgoing_of}
+use Rattle.chaos_link.specs.declared.keeper.FixedPeers.{FixedPeers}
 use Rattle.chaos_link.specs.declared.fault.LinkFault.{LinkFault}
 use Rattle.chaos_link.specs.declared.link.Received.{Received}
 use Rattle.chaos_link.specs.declared.link.Received.TheVariants as receiving
@@ -55,10 +57,18 @@ sends_in (Send datagram ∷ asks) = datagram ∷ sends_in asks
 sends_in (Receive may_wait ∷ asks) = sends_in asks
 
 -- Over a link over UDP, the socket is asked to send exactly the CHUDP forms of the datagrams that the link is asked to send, in this
--- order, each to the UDP address that the peers have for its address.
-abbrev pub SocketSendsForms : {S : Type 0} → (S → S → List SocketAsk → Type 0) → Type 0
-SocketSendsForms {S} asked = (old new : ChudpView (UdpView S)) (asks : List Ask)
-    → Asks (AsksBeneath (AsksSocket asked) old) (AsksBeneath (AsksSocket asked) new) asks
+-- order, each to the UDP address that the peers have for its address when it is sent.
+abbrev pub SocketSendsForms : {S K : Type 0} → (S → S → List SocketAsk → Type 0) → Becomes K → Type 0
+SocketSendsForms {S} {K} asked becomes = (old new : ChudpView (UdpView S K)) (asks : List Ask)
+    → Asks (AsksBeneath (AsksSocket asked becomes) old) (AsksBeneath (AsksSocket asked becomes) new) asks
+    → (socket_asks : List SocketAsk) × asked new.inner.socket old.inner.socket socket_asks
+    × SendsBy becomes old.inner.keeper old.inner.peers (asks_over old.hops old.me asks) new.inner.keeper new.inner.peers
+    (datagrams_in socket_asks)
+
+-- Where the peers are fixed, each form goes to the UDP address that these peers have for its address.
+abbrev pub SocketSendsFormsToFixedPeers : {S : Type 0} → (S → S → List SocketAsk → Type 0) → Type 0
+SocketSendsFormsToFixedPeers {S} asked = (old new : ChudpView (UdpView S FixedPeers)) (asks : List Ask)
+    → Asks (AsksBeneath (AsksSocket asked stays) old) (AsksBeneath (AsksSocket asked stays) new) asks
     → (socket_asks : List SocketAsk) × asked new.inner.socket old.inner.socket socket_asks
     × (datagrams_in socket_asks ≡ outgoing_of old.inner.peers (to_send (forms_of old.hops old.me (sends_in asks))))
 

@@ -3,13 +3,15 @@ ghost use Rattle.std.specs.Prelude.{◌≡◌, ◌≢◌, ◌↔◌, ◌≤◌, 
 ghost use Rattle.chaos_packet.specs.Count.{Rose};
 ghost use Rattle.chaos_link.specs.Datagram.{fault_of};
 ghost use Rattle.chaos_link.specs.Link.{Asks, Send, Receive, SendsInto, IsWithin};
-ghost use Rattle.chaos_chudp.specs.Link.{AsksBeneath, HandedUp, HandsUpSome, HearsFrom, IsHandedUpAsSent, SocketSendsForms, form_to, handed_for};
+ghost use Rattle.chaos_chudp.specs.Link.{AsksBeneath, HandedUp, HandsUpSome, HearsFrom, IsHandedUpAsSent, SocketSendsForms, SocketSendsFormsToFixedPeers, form_to, handed_for};
 
 use crate::hops::Hops;
 use crate::limits::{HEAD_BYTES, MAX_CHUDP, TRAILER_BYTES};
 use crate::read::{MARK, checked, words_checked};
 use crate::write::close;
-use chaos_link::{DatagramSocket, LINK_ROOM, Link, LinkReport, Received, Reports, Sent};
+use chaos_link::{
+    DatagramSocket, LINK_ROOM, Link, LinkReport, PeerKeeper, Peers, Received, Reports, Sent,
+};
 use std::marker::Model;
 
 /// A link over another link, which carries packets in CHUDP. What is sent to it as a datagram of
@@ -135,12 +137,18 @@ impl<L: Link> Link for ChudpLink<L> {
     }
 }
 
-/// The report of the link is that of the link beneath.
+/// The report and the peers of the link are those of the link beneath.
 impl<L: Reports> Reports for ChudpLink<L> {
     ghost reported = { λ link. L.reported link.inner };
 
+    ghost peers_of = { λ link. L.peers_of link.inner };
+
     fn report(&self) -> LinkReport {
         self.inner.report()
+    }
+
+    fn peers(&self) -> &Peers {
+        self.inner.peers()
     }
 }
 
@@ -198,10 +206,14 @@ pub fn law_same_datagram()
     ensures { IsHandedUpAsSent }
 {}
 
-/// The law of such a link over UDP.
-pub fn law_sockets<S: DatagramSocket>()
+/// The laws of such a link over UDP.
+pub fn law_sockets<S: DatagramSocket, K: PeerKeeper>()
     // The socket is asked to send exactly the CHUDP forms of the datagrams that the link is asked
     // to send, in their order. Each form goes to the UDP address that the link's peers have for its
+    // address when it is sent, and nowhere where they have none. The peers change at a receive
+    // alone, as their keeper may change them.
+    ensures kept { SocketSendsForms S.asked K.becomes }
+    // Where the peers are fixed, each form goes to the UDP address that these peers have for its
     // address, and nowhere where they have none.
-    ensures { SocketSendsForms S.asked }
+    ensures fixed { SocketSendsFormsToFixedPeers S.asked }
 {}

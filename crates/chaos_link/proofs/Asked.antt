@@ -1,12 +1,13 @@
 -- What was asked, step by step.
-use Rattle.std.proofs.Common.{◌≡◌, ℕ, ◌-◌, ◌==◌, Bool, true, false, if◌then◌else◌, List, [], ◌∷◌, ◌++◌, Option, Some, None, refl, ap, sym, subst, ◌∙◌, append_assoc, arith}
+use Rattle.std.proofs.Common.{◌≡◌, ℕ, ◌-◌, ◌==◌, Bool, true, false, if◌then◌else◌, List, [], ◌∷◌, ◌++◌, Option, refl, ap, sym, subst, ◌∙◌, append_assoc, arith}
 use Rattle.std.proofs.lemmas.List.{append-nil}
 use Rattle.std.proofs.lemmas.Bool.Decides.{nat_tests}
 use Rattle.std.specs.declared.net.socket_addr.SocketAddrV4.{SocketAddrV4}
 use Rattle.chaos_link.specs.Fuse.{FuseView, after_blow, after_pass, asked_behind, left_after, without_one}
+use Rattle.chaos_link.specs.Keeper.{Becomes, Incoming, stays}
 use Rattle.chaos_link.specs.Link.{Addressed, Ask, AskedSince, Asks, Receive, Send}
 use Rattle.chaos_link.specs.Peers.{PeersView, socket_of}
-use Rattle.chaos_link.specs.Udp.{AsksSocket, Outgoing, ReceiveOne, SendTo, SocketAsk, UdpView, Wait, WaitAtMost, datagrams_in, outgoing_of, outgoing_to}
+use Rattle.chaos_link.specs.Udp.{AsksSocket, Outgoing, ReceiveOne, SendTo, SendsBy, SendsToFixedPeers, SocketAsk, UdpView, Wait, WaitAtMost, datagrams_in, outgoing_of, outgoing_to}
 
 pub asks_none : {S A : Type 0} (a : AskedSince S A) → Asks a a []
 asks_none {S} {A} a = record { goes = λ first before was. subst (λ (l : List A). a first l) (sym (append-nil before)) was }
@@ -102,66 +103,104 @@ datagrams_both (ReceiveOne ∷ xs) ys = datagrams_both xs ys
 datagrams_both (WaitAtMost nanos ∷ xs) ys = datagrams_both xs ys
 datagrams_both (Wait waits ∷ xs) ys = datagrams_both xs ys
 
-outgoing_both : (peers : PeersView) (xs ys : List Ask)
-    → outgoing_of peers (xs ++ ys) ≡ outgoing_of peers xs ++ outgoing_of peers ys
-outgoing_both peers [] ys = refl
-outgoing_both peers (Send datagram ∷ xs) ys =
-    ap (λ (ds : List Outgoing). outgoing_to (socket_of datagram.to peers) datagram.bytes ++ ds) (outgoing_both peers xs ys)
-    ∙ sym (append_assoc (outgoing_to (socket_of datagram.to peers) datagram.bytes) (outgoing_of peers xs) (outgoing_of peers ys))
-outgoing_both peers (Receive may_wait ∷ xs) ys = outgoing_both peers xs ys
+module _ {K : Type 0} (becomes : Becomes K) where
+  -- what is sent by some asks, and then by more
+  sends_both : (k : K) (p : PeersView) (xs : List Ask) (l : K) (q : PeersView) (first : List Outgoing) (ys : List Ask) (m : K)
+      (r : PeersView) (second : List Outgoing) → SendsBy becomes k p xs l q first → SendsBy becomes l q ys m r second
+      → SendsBy becomes k p (xs ++ ys) m r (first ++ second)
+  sends_both k p [] l q first ys m r second one two =
+      subst (λ (k : K). SendsBy becomes k p ys m r (first ++ second)) one.0
+      (subst (λ (p : PeersView). SendsBy becomes l p ys m r (first ++ second)) one.1
+      (subst (λ (ds : List Outgoing). SendsBy becomes l q ys m r (ds ++ second)) (sym one.2) two))
+  sends_both k p (Send datagram ∷ xs) l q first ys m r second one two = (
+    one.0 ++ second,
+    ap (λ (ds : List Outgoing). ds ++ second) one.1
+        ∙ append_assoc (outgoing_to (socket_of datagram.to p) datagram.bytes) one.0 second,
+    sends_both k p xs l q one.0 ys m r second one.2 two,
+  )
+  sends_both k p (Receive may_wait ∷ xs) l q first ys m r second one two =
+      (one.0, one.1, one.2, one.3, sends_both one.1 one.2 xs l q first ys m r second one.4 two)
 
-module _ {S : Type 0} (asked : S → S → List SocketAsk → Type 0) (old new inside : UdpView S) (view : inside ≡ old)
-    (same : new.peers ≡ inside.peers) where
+-- fixed peers stay, and each datagram goes to where they have it
+pub fixed_sends : {K : Type 0} (k : K) (p : PeersView) (asks : List Ask) (l : K) (q : PeersView) (sent : List Outgoing)
+    → SendsBy stays k p asks l q sent → (q ≡ p) × (sent ≡ outgoing_of p asks)
+fixed_sends k p [] l q sent is = (is.1, is.2)
+fixed_sends k p (Send datagram ∷ asks) l q sent is =
+    let others = fixed_sends k p asks l q is.0 is.2 in (
+      others.0,
+      is.1 ∙ ap (λ (ds : List Outgoing). outgoing_to (socket_of datagram.to p) datagram.bytes ++ ds) others.1,
+    )
+fixed_sends k p (Receive may_wait ∷ asks) l q sent is =
+    let others = fixed_sends is.1 is.2 asks l q sent is.4 in
+    (others.0 ∙ is.3, others.1 ∙ ap (λ (ps : PeersView). outgoing_of ps asks) is.3)
+
+pub fixed_asks : {S : Type 0} (asked : S → S → List SocketAsk → Type 0) → SendsToFixedPeers asked
+fixed_asks asked now start asks is =
+    let sends = fixed_sends start.keeper start.peers asks now.keeper now.peers (datagrams_in is.socket_asks) is.sends in
+    (sends.0, is.socket_asks, is.socket_asked, sends.1)
+
+module _ {S K : Type 0} (asked : S → S → List SocketAsk → Type 0) (becomes : Becomes K) (old new inside : UdpView S K)
+    (view : inside ≡ old) where
   -- one call of the link
-  one_call : (ask : Ask) (asks : List SocketAsk) → datagrams_in asks ≡ outgoing_of old.peers (ask ∷ [])
+  one_call : (ask : Ask) (asks : List SocketAsk)
+      → SendsBy becomes inside.keeper inside.peers (ask ∷ []) new.keeper new.peers (datagrams_in asks)
       → Asks (asked inside.socket) (asked new.socket) asks
-      → Asks (AsksSocket asked old) (AsksSocket asked new) (ask ∷ [])
-  one_call ask asks goes step = record {
-    goes = λ first before was. record {
-      peers = same ∙ ap (λ (v : UdpView S). v.peers) view ∙ was.peers;
-      socket_asks = was.socket_asks ++ asks;
-      socket_asked =
-          step.goes first.socket was.socket_asks
-          (subst (λ (v : UdpView S). asked v.socket first.socket was.socket_asks) (sym view) was.socket_asked);
-      outgoing =
-          datagrams_both was.socket_asks asks ∙ ap (λ (ds : List Outgoing). ds ++ datagrams_in asks) was.outgoing
-          ∙ ap (λ (ds : List Outgoing). outgoing_of first.peers before ++ ds)
-          (goes ∙ ap (λ (ps : PeersView). outgoing_of ps (ask ∷ [])) was.peers)
-          ∙ sym (outgoing_both first.peers before (ask ∷ []));
-    };
-  }
+      → Asks (AsksSocket asked becomes old) (AsksSocket asked becomes new) (ask ∷ [])
+  one_call ask asks goes step =
+      subst (λ (v : UdpView S K). Asks (AsksSocket asked becomes v) (AsksSocket asked becomes new) (ask ∷ [])) view
+      (record {
+        goes = λ first before was. record {
+          socket_asks = was.socket_asks ++ asks;
+          socket_asked = step.goes first.socket was.socket_asks was.socket_asked;
+          sends =
+              subst
+              (λ (ds : List Outgoing). SendsBy becomes first.keeper first.peers (before ++ ask ∷ []) new.keeper new.peers ds)
+              (sym (datagrams_both was.socket_asks asks))
+              (sends_both becomes first.keeper first.peers before inside.keeper inside.peers (datagrams_in was.socket_asks)
+              (ask ∷ []) new.keeper new.peers (datagrams_in asks) was.sends goes);
+        };
+      })
 
-  -- a datagram to a peer, who was found
-  pub one_out : (datagram : Addressed) (found : Option SocketAddrV4) (to : SocketAddrV4)
-      → found ≡ socket_of datagram.to inside.peers → found ≡ Some to
-      → Asks (asked inside.socket) (asked new.socket) (SendTo (record { to = to; bytes = datagram.bytes }) ∷ [])
-      → Asks (AsksSocket asked old) (AsksSocket asked new) (Send datagram ∷ [])
-  one_out datagram found to known is step =
-      let here : socket_of datagram.to old.peers ≡ Some to =
-      ap (λ (v : UdpView S). socket_of datagram.to v.peers) (sym view) ∙ sym known ∙ is in
-      one_call (Send datagram) (SendTo (record { to = to; bytes = datagram.bytes }) ∷ [])
-      (sym (ap (λ (there : Option SocketAddrV4). outgoing_to there datagram.bytes ++ []) here)) step
+  -- a datagram, which goes out to where its peer is
+  pub one_out : (datagram : Addressed) (there : Option SocketAddrV4) (asks : List SocketAsk)
+      → there ≡ socket_of datagram.to inside.peers → datagrams_in asks ≡ outgoing_to there datagram.bytes
+      → new.keeper ≡ inside.keeper → new.peers ≡ inside.peers → Asks (asked inside.socket) (asked new.socket) asks
+      → Asks (AsksSocket asked becomes old) (AsksSocket asked becomes new) (Send datagram ∷ [])
+  one_out datagram there asks known goes keeper peers step =
+      one_call (Send datagram) asks (
+        [],
+        goes ∙ ap (λ (o : Option SocketAddrV4). outgoing_to o datagram.bytes) known
+            ∙ sym (append-nil (outgoing_to (socket_of datagram.to inside.peers) datagram.bytes)),
+        (keeper, peers, refl),
+      )
+      step
 
-  -- a receive that failed before it asked for a datagram, and one that asked
-  pub none_heard : (may_wait : Bool)
-      → (asks : List SocketAsk) × (datagrams_in asks ≡ []) × Asks (asked inside.socket) (asked new.socket) asks
-      → Asks (AsksSocket asked old) (AsksSocket asked new) (Receive may_wait ∷ [])
-  none_heard may_wait set = one_call (Receive may_wait) set.0 set.1 set.2
+module _ {S K : Type 0} (asked : S → S → List SocketAsk → Type 0) (becomes : Becomes K) (old heard inside : UdpView S K)
+    (view : inside ≡ heard) where
+  -- a receive: the link has heard, and then the keeper changes the peers
+  pub one_heard : (may_wait : Bool) (came : Option Incoming) (keeper : K) (peers : PeersView) → heard.keeper ≡ old.keeper
+      → heard.peers ≡ old.peers → becomes inside.keeper inside.peers came keeper peers
+      → (asks : List SocketAsk) × (datagrams_in asks ≡ []) × Asks (asked old.socket) (asked heard.socket) asks
+      → Asks (AsksSocket asked becomes old) (AsksSocket asked becomes (record inside { keeper = keeper; peers = peers }))
+      (Receive may_wait ∷ [])
+  one_heard may_wait came keeper peers same_keeper same_peers change set =
+      let change_of_old : becomes old.keeper old.peers came keeper peers =
+      subst (λ (k : K). becomes k old.peers came keeper peers) (ap (λ (v : UdpView S K). v.keeper) view ∙ same_keeper)
+      (subst (λ (p : PeersView). becomes inside.keeper p came keeper peers)
+      (ap (λ (v : UdpView S K). v.peers) view ∙ same_peers) change) in
+      let step : Asks (asked old.socket) (asked inside.socket) set.0 =
+      subst (λ (v : UdpView S K). Asks (asked old.socket) (asked v.socket) set.0) (sym view) set.2 in
+      one_call asked becomes old (record inside { keeper = keeper; peers = peers }) old refl (Receive may_wait) set.0
+      (came, keeper, peers, change_of_old, (refl, refl, set.1)) step
 
-  pub one_heard : (may_wait : Bool) (mid : S)
-      → (asks : List SocketAsk) × (datagrams_in asks ≡ []) × Asks (asked inside.socket) (asked mid) asks
-      → Asks (asked mid) (asked new.socket) (ReceiveOne ∷ [])
-      → Asks (AsksSocket asked old) (AsksSocket asked new) (Receive may_wait ∷ [])
-  one_heard may_wait mid set step =
-      one_call (Receive may_wait) (set.0 ++ ReceiveOne ∷ [])
-      (datagrams_both set.0 (ReceiveOne ∷ []) ∙ ap (λ (ds : List Outgoing). ds ++ []) set.1)
-      (asks_both (asked inside.socket) (asked mid) (asked new.socket) set.0 (ReceiveOne ∷ []) set.2 step)
-
--- a datagram to nobody
-pub none_out : {S : Type 0} (asked : S → S → List SocketAsk → Type 0) (link : UdpView S) (datagram : Addressed)
-    → socket_of datagram.to link.peers ≡ None
-    → Asks (AsksSocket asked link) (AsksSocket asked link) (Send datagram ∷ [])
-none_out asked link datagram unknown =
-    one_call asked link link link refl refl (Send datagram) []
-    (sym (ap (λ (there : Option SocketAddrV4). outgoing_to there datagram.bytes ++ []) unknown))
-    (asks_none (asked link.socket))
+-- a receive of a socket, behind asks that send nothing
+pub then_receive : {S K : Type 0} (asked : S → S → List SocketAsk → Type 0) (old inside : UdpView S K) (mid last : S)
+    → inside ≡ old → (asks : List SocketAsk) × (datagrams_in asks ≡ []) × Asks (asked inside.socket) (asked mid) asks
+    → Asks (asked mid) (asked last) (ReceiveOne ∷ [])
+    → (asks : List SocketAsk) × (datagrams_in asks ≡ []) × Asks (asked old.socket) (asked last) asks
+then_receive {S} {K} asked old inside mid last view set step = (
+  set.0 ++ ReceiveOne ∷ [],
+  datagrams_both set.0 (ReceiveOne ∷ []) ∙ ap (λ (ds : List Outgoing). ds ++ []) set.1,
+  subst (λ (v : UdpView S K). Asks (asked v.socket) (asked last) (set.0 ++ ReceiveOne ∷ [])) view
+      (asks_both (asked inside.socket) (asked mid) (asked last) set.0 (ReceiveOne ∷ []) set.2 step),
+)

@@ -67,8 +67,8 @@ hears_error closed peers error report fault gone new is_fault is_gone = (
 )
 
 -- of the link as its contract sees it
-pub viewed : {S : Type 0} {inside old : UdpView S} → inside ≡ old → (heard : Result SocketAddr Error) (result : Received)
+pub viewed : {S K : Type 0} {inside old : UdpView S K} → inside ≡ old → (heard : Result SocketAddr Error) (result : Received)
     (report : LinkReport) → HearsAfter inside.closed inside.peers heard result report
     → HearsAfter old.closed old.peers heard result report
-viewed {S} view heard result report hears =
-    subst (λ (v : UdpView S). HearsAfter v.closed v.peers heard result report) view hears
+viewed {S} {K} view heard result report hears =
+    subst (λ (v : UdpView S K). HearsAfter v.closed v.peers heard result report) view hears

@@ -5,6 +5,7 @@ pub mod Canon
 pub mod Carried
 pub mod Cut
 pub mod Either
+pub mod Entries
 pub mod Hears
 pub mod Made
 pub mod Several

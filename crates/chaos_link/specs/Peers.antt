@@ -1,5 +1,5 @@
 -- What is known of peers.
-use Rattle.std.specs.Prelude.{◌≡◌, ◌⊎◌, ◌==◌, ℕ, List, Option, Some, option_map, find}
+use Rattle.std.specs.Prelude.{◌≡◌, ◌⊎◌, ◌==◌, ◌++◌, ◌∷◌, [], ℕ, List, Option, Some, None, option_map, find, position, slice_set}
 use Rattle.std.specs.List.{Any}
 use Rattle.std.specs.Option.{option_or}
 use Rattle.std.specs.declared.net.socket_addr.SocketAddrV4.{SocketAddrV4}
@@ -25,3 +25,11 @@ socket_of address peers = option_or (entry_of address peers.hosts) peers.bridge
 -- A peer or the bridge is at this UDP address.
 abbrev pub IsPeerAt : SocketAddrV4 → PeersView → Type 0
 IsPeerAt socket peers = Any (λ peer. peer.socket ≡ socket) peers.hosts ⊎ (peers.bridge ≡ Some socket)
+
+-- the entries with this entry: in the place of the entry that had its address, else behind the others
+abbrev pub with_entry_at : Option ℕ → Peer → List Peer → List Peer
+with_entry_at (Some place) peer hosts = slice_set hosts place peer
+with_entry_at None peer hosts = hosts ++ peer ∷ []
+
+abbrev pub with_entry : Peer → List Peer → List Peer
+with_entry peer hosts = with_entry_at (position (λ host. host.address == peer.address) hosts) peer hosts

@@ -13,6 +13,7 @@ mod encode;
 mod fault;
 mod fuse;
 mod gone;
+mod keeper;
 mod limits;
 mod link;
 mod loads;
@@ -33,6 +34,7 @@ pub use encode::{to_datagram, write_datagram};
 pub use fault::{LinkFault, PeerFault};
 pub use fuse::FuseLink;
 pub use gone::is_gone;
+pub use keeper::{FixedPeers, PeerKeeper};
 pub use limits::{
     LINK_ROOM, MARK_BYTES, MAX_BUNDLE, MAX_DATAGRAM, MAX_LOAD, MAX_PACKETS, MAX_PEERS, MAX_WAIT,
     law_limits,
@@ -46,4 +48,4 @@ pub use peers::{Peer, Peers};
 pub use report::{LinkReport, Reports};
 pub use socket::DatagramSocket;
 pub use socket_fault::{SocketCall, SocketFault};
-pub use udp::UdpLink;
+pub use udp::{UdpLink, law_fixed_peers};

@@ -1,8 +1,8 @@
 //! Where the datagrams of each host go.
-ghost use Rattle.std.specs.Prelude.{◌≡◌, ◌++◌, ◌∷◌, [], ◌↔◌, ◌<◌, ◌≤◌, length, IsErrOf, IsTrue, None, OnOk, OnErr, Some};
+ghost use Rattle.std.specs.Prelude.{◌≡◌, ◌≢◌, ◌++◌, ◌∷◌, [], ◌↔◌, ◌<◌, ◌≤◌, ◌==◌, ℕ, length, position, slice_set, IfSome, IsErrOf, IsTrue, None, OnOk, OnErr, Some};
 ghost use Rattle.std.specs.Net.Socket.{v4_port};
 ghost use Rattle.chaos_link.specs.declared.limits.TheConstants.{MAX_PEERS};
-ghost use Rattle.chaos_link.specs.Peers.{entry_of, socket_of, IsKnown, IsPeerAt};
+ghost use Rattle.chaos_link.specs.Peers.{entry_of, socket_of, with_entry, IsKnown, IsPeerAt};
 
 use crate::fault::PeerFault;
 use crate::limits::MAX_PEERS;
@@ -135,6 +135,53 @@ impl Peers {
         }
         self.table.push(peer);
         Ok(())
+    }
+
+    /// Sets the UDP address of a host: changes it in the entry that has the host's Chaosnet address,
+    /// or adds an entry.
+    ///
+    /// # Errors
+    /// No entry has the host's address, and the table is full.
+    pub fn set(&mut self, peer: Peer) -> Result<(), PeerFault>
+        // The peer stands in the place of the entry that had its address, or else behind the
+        // others. No other entry changes, nor does the bridge.
+        ensures ok { OnOk result
+            (self.new ≡ record self.old { hosts = with_entry peer self.old.hosts }) }
+        // So datagrams for the host go to this UDP address, and all others go where they went.
+        ensures found { OnOk result (socket_of peer.address self.new ≡ Some peer.socket) }
+        ensures others { OnOk result ((address : ℕ) → address ≢ peer.address
+            → socket_of address self.new ≡ socket_of address self.old) }
+        // A refusal changes nothing.
+        ensures err { OnErr result (self.new ≡ self.old) }
+        // A peer is refused exactly where there are 32 peers already, of which none has its
+        // address.
+        ensures too_many { IsErrOf result PeerFault.TooMany
+            ↔ ((length self.old.hosts ≡ MAX_PEERS) × ¬ (IsKnown peer.address self.old.hosts)) }
+        ensures fault { OnErr result (IsErrOf result PeerFault.TooMany) }
+    {
+        match self.place_of(peer.address) {
+            Some(place) => self.replace(place, peer),
+            None if self.table.is_full() => return Err(PeerFault::TooMany),
+            None => self.table.push(peer),
+        }
+        Ok(())
+    }
+
+    /// Puts an entry in the place of another.
+    fn replace(&mut self, place: usize, peer: Peer)
+        requires { place < length self.old.hosts }
+        ensures { self.new
+            ≡ record self.old { hosts = slice_set self.old.hosts place peer } }
+    {
+        self.table.as_mut_slice()[place] = peer;
+    }
+
+    /// The place of the entry with this Chaosnet address.
+    fn place_of(&self, address: u16) -> Option<usize>
+        ensures place { result ≡ position (λ host. host.address == address) self.now.hosts }
+        ensures within { IfSome result (λ place. place < length self.now.hosts) }
+    {
+        self.table.iter().position(|peer| peer.address == address)
     }
 
     /// Sets the bridge. A bridge that was set before is replaced.

@@ -5,12 +5,14 @@ ghost use Rattle.std.specs.declared.net.socket_addr.SocketAddr.{SocketAddr};
 ghost use Rattle.chaos_packet.specs.Count.{Rose, with_failure};
 ghost use Rattle.chaos_link.specs.Gone.{sent_after};
 ghost use Rattle.chaos_link.specs.Heard.{Answered, HearsAfter};
+ghost use Rattle.chaos_link.specs.Keeper.{handed_up};
 ghost use Rattle.chaos_link.specs.Link.{Asks, IsWithin, Receive, Send};
 ghost use Rattle.chaos_link.specs.Peers.{socket_of};
 ghost use Rattle.chaos_link.specs.SocketFault.{fault_so_far};
-ghost use Rattle.chaos_link.specs.Udp.{AsksSocket, ReceiveOne, SendTo, SocketAsk, after_send, datagrams_in, failures_after, new_udp, outgoing_to, setting};
+ghost use Rattle.chaos_link.specs.Udp.{AsksSocket, ReceiveOne, SendTo, SocketAsk, after_send, datagrams_in, failures_after, new_udp, outgoing_to, setting, with_keeper, SendsToFixedPeers};
 
 use crate::gone::is_gone;
+use crate::keeper::{FixedPeers, PeerKeeper};
 use crate::limits::{LINK_ROOM, MAX_WAIT};
 use crate::link::{Link, Received, Sent};
 use crate::peers::Peers;
@@ -23,9 +25,11 @@ use std::time::Duration;
 
 /// A link over a UDP socket. Datagrams go to the sockets of its peers and the bridge, and come from
 /// anybody. A closed link drops what comes from anywhere else than from these sockets. A contract
-/// sees the socket, the peers, the failures, whether the last receive waited, whether the link is
-/// closed, and its report. It says what the socket is asked, and nothing of what the system does
-/// then.
+/// sees the socket, the peers and their keeper, the failures, whether the last receive waited,
+/// whether the link is closed, and its report. It says what the socket is asked, and nothing of
+/// what the system does then.
+///
+/// The peers are fixed unless a [`PeerKeeper`] keeps them, which each receive calls once.
 ///
 /// A receive that may wait does so for at most 10 milliseconds, where no datagram is there; the
 /// system may round that time up. Any other receive polls. To change from waiting to polling, or
@@ -39,9 +43,10 @@ use std::time::Duration;
 /// ([`is_gone`](crate::is_gone)), or where the socket can't be set to wait or to poll. Receives of
 /// such a socket would never end, or take all of a processor's time.
 #[derive(Drop)]
-pub struct UdpLink<S = UdpSocket> {
+pub struct UdpLink<S = UdpSocket, K = FixedPeers> {
     socket: S,
     peers: Peers,
+    keeper: K,
     failures: u64,
     /// Whether the socket's receives wait, once a receive has set that.
     waits: Option<bool>,
@@ -51,14 +56,15 @@ pub struct UdpLink<S = UdpSocket> {
     report: LinkReport,
 }
 
-impl<S> Model for UdpLink<S> {
+impl<S, K> Model for UdpLink<S, K> {
     ghost use Rattle.chaos_link.specs.Udp.{UdpView};
 
-    ghost Value = { UdpView S };
+    ghost Value = { UdpView S K };
 
     ghost view = { λ link. record {
       socket = link.socket;
       peers = link.peers;
+      keeper = link.keeper;
       failures = link.failures;
       waits = link.waits;
       closed = link.is_closed;
@@ -67,7 +73,7 @@ impl<S> Model for UdpLink<S> {
 }
 
 impl<S> UdpLink<S> {
-    /// A link over this socket to these peers. The call does nothing to the socket.
+    /// A link over this socket to these peers, which are fixed. The call does nothing to the socket.
     pub fn new(socket: S, peers: Peers) -> Self
         // A new link hears anybody. It counts no failure and reports nothing, and no receive has
         // set whether its socket waits.
@@ -76,6 +82,7 @@ impl<S> UdpLink<S> {
         UdpLink {
             socket,
             peers,
+            keeper: FixedPeers,
             failures: 0,
             waits: None,
             is_closed: false,
@@ -92,28 +99,94 @@ impl<S> UdpLink<S> {
         link.is_closed = true;
         link
     }
+
+    /// The same link, whose peers this keeper keeps.
+    pub fn kept_by<K>(self, keeper: K) -> UdpLink<S, K>
+        // Nothing but the keeper changes.
+        ensures { result ≡ with_keeper keeper self }
+    {
+        UdpLink {
+            socket: self.socket,
+            peers: self.peers,
+            keeper,
+            failures: self.failures,
+            waits: self.waits,
+            is_closed: self.is_closed,
+            report: self.report,
+        }
+    }
 }
 
-impl<S> Reports for UdpLink<S> {
+impl<S, K> Reports for UdpLink<S, K> {
     ghost reported = { λ link. link.report };
+
+    ghost peers_of = { λ link. link.peers };
 
     fn report(&self) -> LinkReport {
         self.report
     }
+
+    fn peers(&self) -> &Peers {
+        &self.peers
+    }
 }
 
-impl<S: DatagramSocket> Link for UdpLink<S> {
+impl<S: DatagramSocket, K> UdpLink<S, K> {
+    /// Receives a datagram and reports it, without a word to the keeper of the peers.
+    fn listen(&mut self, buffer: &mut [u8; LINK_ROOM], may_wait: bool) -> Received
+        ensures failed { result ≡ Received.Failed → Rose self.old.failures self.new.failures }
+        ensures within { IsWithin LINK_ROOM result }
+        ensures peers { self.new.peers ≡ self.old.peers }
+        ensures keeper { self.new.keeper ≡ self.old.keeper }
+        ensures counted { self.new.failures ≡ failures_after result self.old.failures }
+        ensures waits { result ≢ Received.Failed → self.new.waits ≡ Some may_wait }
+        ensures socket { result ≢ Received.Failed → Asks (S.asked self.old.socket)
+            (S.asked self.new.socket) (setting self.old.waits may_wait ++ ReceiveOne ∷ []) }
+        // Whatever the answer is, the socket was asked to send nothing.
+        ensures nothing { (asks : List SocketAsk) × (datagrams_in asks ≡ [])
+            × Asks (S.asked self.old.socket) (S.asked self.new.socket) asks }
+        ensures closed { self.new.closed ≡ self.old.closed }
+        ensures answered { self.new.waits ≡ Some may_wait → (heard : Result SocketAddr Error)
+            × Answered S.answered S.came self.new.socket heard
+            × HearsAfter self.old.closed self.old.peers heard result self.new.report }
+    {
+        self.report = LinkReport::new();
+        if let Err(fault) = set_wait(&mut self.socket, &mut self.waits, may_wait) {
+            self.report.fault = Some(fault);
+            count_failure(&mut self.failures);
+            return Received::Failed;
+        }
+        match self.socket.receive_datagram(buffer) {
+            Ok((count, SocketAddr::V4(from))) if !self.is_closed || self.peers.has_socket(from) => {
+                self.report.source = Some(from);
+                Received::Got(count)
+            }
+            // No peer and no bridge has such an address.
+            Ok((count, SocketAddr::V6(_))) if !self.is_closed => Received::Got(count),
+            Ok(_) => Received::Nothing,
+            Err(error) => {
+                self.report.fault = fault_after(SocketCall::Receive, error, None);
+                if is_gone(&error) {
+                    count_failure(&mut self.failures);
+                    return Received::Failed;
+                }
+                Received::Nothing
+            }
+        }
+    }
+}
+
+impl<S: DatagramSocket, K: PeerKeeper> Link for UdpLink<S, K> {
     ghost count = { λ link. link.failures };
 
     ghost queue = { λ _. None };
 
-    ghost asked = { AsksSocket S.asked };
+    ghost asked = { AsksSocket S.asked K.becomes };
 
     ghost began = { λ link. record {
-      peers = refl;
       socket_asks = [];
       socket_asked = S.began link.socket;
-      outgoing = refl;
+      sends = (refl, refl, refl);
     } };
 
     /// Sends a datagram to the socket of the peer with this address, otherwise to the bridge. What
@@ -132,7 +205,7 @@ impl<S: DatagramSocket> Link for UdpLink<S> {
         // socket is asked to send just what the link is asked to send to its peers.
         ensures socket { Asks (S.asked self.old.socket) (S.asked self.new.socket)
             (map SendTo (outgoing_to (socket_of to_address self.old.peers) bytes.now)) }
-        ensures asked { Asks (AsksSocket S.asked self.old) (AsksSocket S.asked self.new)
+        ensures asked { Asks (AsksSocket S.asked K.becomes self.old) (AsksSocket S.asked K.becomes self.new)
             (Send (record { to = to_address; bytes = bytes.now }) ∷ []) }
         // Each Failed is counted once, up to the greatest count; beside the report nothing else
         // changes. A send to nobody changes no report.
@@ -173,10 +246,14 @@ impl<S: DatagramSocket> Link for UdpLink<S> {
         ensures uncounted { result ≢ Received.Failed → self.new.failures ≡ self.old.failures }
         ensures within { IsWithin LINK_ROOM result }
         ensures queued { Unit {0} }
-        // The link is asked once to receive, and to send nothing; it keeps its peers.
-        ensures asked { Asks (AsksSocket S.asked self.old) (AsksSocket S.asked self.new)
-            (Receive may_wait ∷ []) }
-        ensures peers { self.new.peers ≡ self.old.peers }
+        // The link is asked once to receive, and to send nothing.
+        ensures asked { Asks (AsksSocket S.asked K.becomes self.old)
+            (AsksSocket S.asked K.becomes self.new) (Receive may_wait ∷ []) }
+        // The peers and their keeper become what the keeper makes of them: after the datagram that
+        // was handed up, where that came from a UDP address of IPv4, and otherwise after none. So
+        // peers that are fixed stay.
+        ensures peers { K.becomes self.old.keeper self.old.peers
+            (handed_up result self.new.report.source buffer.new) self.new.keeper self.new.peers }
         // Each Failed is counted once, up to the greatest count, and nothing else is counted.
         ensures counted { self.new.failures ≡ failures_after result self.old.failures }
         // A receive that isn't answered Failed waits exactly where its caller lets it, and
@@ -198,35 +275,27 @@ impl<S: DatagramSocket> Link for UdpLink<S> {
             × Answered S.answered S.came self.new.socket heard
             × HearsAfter self.old.closed self.old.peers heard result self.new.report }
     {
-        self.report = LinkReport::new();
-        if let Err(fault) = set_wait(&mut self.socket, &mut self.waits, may_wait) {
-            self.report.fault = Some(fault);
-            count_failure(&mut self.failures);
-            return Received::Failed;
-        }
-        match self.socket.receive_datagram(buffer) {
-            Ok((count, SocketAddr::V4(from))) if !self.is_closed || self.peers.has_socket(from) => {
-                self.report.source = Some(from);
-                Received::Got(count)
+        let received = self.listen(buffer, may_wait);
+        match (received, self.report.source) {
+            (Received::Got(count), Some(from)) => {
+                self.keeper.hear(&mut self.peers, from, &buffer[..count]);
             }
-            // No peer and no bridge has such an address.
-            Ok((count, SocketAddr::V6(_))) if !self.is_closed => Received::Got(count),
-            Ok(_) => Received::Nothing,
-            Err(error) => {
-                self.report.fault = fault_after(SocketCall::Receive, error, None);
-                if is_gone(&error) {
-                    count_failure(&mut self.failures);
-                    return Received::Failed;
-                }
-                Received::Nothing
-            }
+            _ => self.keeper.rest(&mut self.peers),
         }
+        received
     }
 
     fn failures(&self) -> u64 {
         self.failures
     }
 }
+
+/// The law of a link whose peers are fixed, over the definitions alone.
+pub fn law_fixed_peers<S: DatagramSocket>()
+    // The link keeps its peers, whatever it is asked. Its socket is asked to send exactly what the
+    // link is asked to send, each datagram to the UDP address that these peers have for it.
+    ensures { SendsToFixedPeers S.asked }
+{}
 
 /// Counts one failure more, up to the greatest count.
 fn count_failure(failures: &mut u64)

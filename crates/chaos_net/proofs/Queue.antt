@@ -6,15 +6,17 @@ use Rattle.chaos_packet.specs.Packet.{PacketView}
 use Rattle.chaos_host.specs.View.{HostView}
 use Rattle.chaos_link.specs.declared.carriage.Carriage.{Carriage}
 use Rattle.chaos_link.specs.declared.carriage.Carriage.TheVariants.{One, Two}
-use Rattle.chaos_link.specs.Link.{Addressed, Ask, QueueView, Receive, to_send, without_first}
+use Rattle.chaos_link.specs.Link.{Addressed, Ask, Asks, QueueView, Receive, to_send, without_first}
+use Rattle.chaos_link.specs.Keeper.{Becomes, Incoming, stays}
 use Rattle.chaos_link.specs.Peers.{PeersView, socket_of}
-use Rattle.chaos_link.specs.Udp.{Outgoing, SocketAsk, outgoing_of, outgoing_to}
+use Rattle.chaos_link.specs.Udp.{AsksSocket, Outgoing, SendsBy, SocketAsk, UdpView, datagrams_in, outgoing_of, outgoing_to}
+use Rattle.chaos_link.proofs.Asked.{fixed_sends}
 use Rattle.chaos_link.specs.Packets.{packets_read}
 use Rattle.chaos_node.specs.Arrive.{Arrival, arrival_from}
 use Rattle.chaos_node.specs.Link.{datagrams_of, sent_by, sent_into}
 use Rattle.chaos_node.specs.Phase.{Effect}
 use Rattle.chaos_node.specs.Turn.{client_phases, queue_after}
-use Rattle.chaos_net.specs.Queue.{IsLaid, IsCarried, QueuesCarry, SocketsPost, TurnsAreSteps}
+use Rattle.chaos_net.specs.Queue.{IsLaid, IsAskedToPost, IsCarried, QueuesCarry, SocketsPost, SocketsPostToFixedPeers, TurnsAreSteps}
 use Rattle.chaos_net.specs.System.{Hands, handed}
 
 -- one that has room takes all
@@ -132,14 +134,63 @@ receipt_out peers [] last may_wait = refl
 receipt_out peers (d ∷ first) last may_wait =
     ap (λ (ds : List Outgoing). outgoing_to (socket_of d.to peers) d.bytes ++ ds) (receipt_out peers first last may_wait)
 
-pub sockets_post : {S : Type 0} (asked : S → S → List SocketAsk → Type 0) → ((socket : S) → asked socket socket [])
-    → SocketsPost asked
-sockets_post asked began old new may_wait posted is =
-    let since =
-    is.asks.goes old []
-    (record { peers = refl; socket_asks = []; socket_asked = began old.socket; outgoing = refl }) in (
+module _ {K : Type 0} (becomes : Becomes K) where
+  -- no send changes the peers
+  sent_alone : (k : K) (p : PeersView) (ds : List Addressed) (l : K) (q : PeersView) (sent : List Outgoing)
+      → SendsBy becomes k p (to_send ds) l q sent → (l ≡ k) × (q ≡ p) × (sent ≡ outgoing_of p (to_send ds))
+  sent_alone k p [] l q sent is = is
+  sent_alone k p (d ∷ ds) l q sent is =
+      let others = sent_alone k p ds l q is.0 is.2 in (
+        others.0,
+        others.1,
+        is.1 ∙ ap (λ (os : List Outgoing). outgoing_to (socket_of d.to p) d.bytes ++ os) others.2,
+      )
+
+  -- what is sent before a receive, and after
+  sent_around : (k : K) (p : PeersView) (first last : List Addressed) (may_wait : Bool) (l : K) (q : PeersView)
+      (sent : List Outgoing) → SendsBy becomes k p (to_send first ++ Receive may_wait ∷ to_send last) l q sent
+      → (came : Option Incoming) × becomes k p came l q
+      × (sent ≡ outgoing_of p (to_send first) ++ outgoing_of q (to_send last))
+  sent_around k p [] last may_wait l q sent is =
+      let after = sent_alone is.1 is.2 last l q sent is.4 in (
+        is.0,
+        subst (λ (n : K). becomes k p is.0 n q) (sym after.0)
+            (subst (λ (n : PeersView). becomes k p is.0 is.1 n) (sym after.1) is.3),
+        after.2 ∙ ap (λ (n : PeersView). outgoing_of n (to_send last)) (sym after.1),
+      )
+  sent_around k p (d ∷ first) last may_wait l q sent is =
+      let out = outgoing_to (socket_of d.to p) d.bytes in
+      let others = sent_around k p first last may_wait l q is.0 is.2 in (
+        others.0,
+        others.1,
+        is.1 ∙ ap (λ (os : List Outgoing). out ++ os) others.2
+            ∙ sym (append_assoc out (outgoing_of p (to_send first)) (outgoing_of q (to_send last))),
+      )
+
+module _ {S K : Type 0} (asked : S → S → List SocketAsk → Type 0) (becomes : Becomes K)
+    (began : (socket : S) → asked socket socket []) where
+  -- what the socket was asked since the link was as it is
+  asked_from : (old new : UdpView S K) (may_wait : Bool) (posted : List Addressed)
+      → (is : IsAskedToPost (Asks (AsksSocket asked becomes old) (AsksSocket asked becomes new)) may_wait posted)
+      → AsksSocket asked becomes new old (to_send is.first ++ Receive may_wait ∷ to_send is.last)
+  asked_from old new may_wait posted is =
+      is.asks.goes old [] (record { socket_asks = []; socket_asked = began old.socket; sends = (refl, refl, refl) })
+
+  pub sockets_post : SocketsPost asked becomes
+  sockets_post old new may_wait posted is =
+      let since = asked_from old new may_wait posted is in
+      let around = sent_around becomes old.keeper old.peers is.first is.last may_wait new.keeper new.peers
+      (datagrams_in since.socket_asks) since.sends in
+      (around.0, around.1, (since.socket_asks, since.socket_asked, around.2))
+
+pub sockets_post_to_fixed : {S : Type 0} (asked : S → S → List SocketAsk → Type 0)
+    → ((socket : S) → asked socket socket []) → SocketsPostToFixedPeers asked
+sockets_post_to_fixed asked began old new may_wait posted is =
+    let since = asked_from asked stays began old new may_wait posted is in
+    let sends = fixed_sends old.keeper old.peers (to_send is.first ++ Receive may_wait ∷ to_send is.last) new.keeper new.peers
+    (datagrams_in since.socket_asks) since.sends in (
       since.socket_asks,
       since.socket_asked,
-      since.outgoing ∙ receipt_out old.peers is.first is.last may_wait
+      sends.1 ∙ receipt_out old.peers is.first is.last may_wait
           ∙ ap (λ (ds : List Addressed). outgoing_of old.peers (to_send ds)) (sym is.all),
     )

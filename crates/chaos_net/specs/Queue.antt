@@ -9,7 +9,9 @@ use Rattle.chaos_host.specs.View.{HostView}
 use Rattle.chaos_host.specs.declared.answers.HostDelivered.{HostDelivered}
 use Rattle.chaos_link.specs.declared.carriage.Carriage.{Carriage}
 use Rattle.chaos_link.specs.Link.{Addressed, Ask, Asks, QueueView, Receive, to_send}
+use Rattle.chaos_link.specs.Keeper.{Becomes, Incoming, stays}
 use Rattle.chaos_link.specs.Udp.{AsksSocket, SocketAsk, UdpView, datagrams_in, outgoing_of}
+use Rattle.chaos_link.specs.declared.keeper.FixedPeers.{FixedPeers}
 use Rattle.chaos_node.specs.Arrive.{Arrival}
 use Rattle.chaos_node.specs.Link.{sent_by}
 use Rattle.chaos_node.specs.Station.{Station}
@@ -65,9 +67,19 @@ TurnsAreSteps asked = (may_wait : Bool) (carriage : Carriage) (start now : ℕ) 
     (sent_by carriage (before.outbox.packets ∷ (client_phases runs.came now before.node).lots))
 
 -- If the link is a link over UDP, then its socket was asked to send exactly these datagrams, in this order, each to the
--- UDP address of its peer, else to the bridge, and nothing for an address with neither.
-abbrev pub SocketsPost : {S : Type 0} → (S → S → List SocketAsk → Type 0) → Type 0
-SocketsPost {S} asked = (old new : UdpView S) (may_wait : Bool) (posted : List Addressed)
-    → IsAskedToPost (Asks (AsksSocket asked old) (AsksSocket asked new)) may_wait posted
+-- UDP address of its peer, else to the bridge, and nothing for an address with neither. The datagrams before the receive
+-- went to the peers of before. At the receive the keeper may have changed the peers, and the other datagrams went to the
+-- peers of after.
+abbrev pub SocketsPost : {S K : Type 0} → (S → S → List SocketAsk → Type 0) → Becomes K → Type 0
+SocketsPost {S} {K} asked becomes = (old new : UdpView S K) (may_wait : Bool) (posted : List Addressed)
+    → (is : IsAskedToPost (Asks (AsksSocket asked becomes old) (AsksSocket asked becomes new)) may_wait posted)
+    → (came : Option Incoming) × becomes old.keeper old.peers came new.keeper new.peers
+    × ((asks : List SocketAsk) × asked new.socket old.socket asks
+    × (datagrams_in asks ≡ outgoing_of old.peers (to_send is.first) ++ outgoing_of new.peers (to_send is.last)))
+
+-- If the peers are fixed, then all datagrams went to these peers.
+abbrev pub SocketsPostToFixedPeers : {S : Type 0} → (S → S → List SocketAsk → Type 0) → Type 0
+SocketsPostToFixedPeers {S} asked = (old new : UdpView S FixedPeers) (may_wait : Bool) (posted : List Addressed)
+    → IsAskedToPost (Asks (AsksSocket asked stays old) (AsksSocket asked stays new)) may_wait posted
     → (asks : List SocketAsk) × asked new.socket old.socket asks
     × (datagrams_in asks ≡ outgoing_of old.peers (to_send posted))

@@ -4,12 +4,12 @@ ghost use Rattle.chaos_host.specs.View.{HostView};
 ghost use Rattle.chaos_link.specs.Link.{Asks};
 ghost use Rattle.chaos_net.specs.TurnHalves.{ArrivalsAreSteps, NodeTurnsAreRuns, TicksAreSteps, node_turns};
 ghost use Rattle.chaos_net.specs.SystemHello.{SomethingIsRead};
-ghost use Rattle.chaos_net.specs.Queue.{QueuesCarry, SocketsPost, TurnsAreSteps};
+ghost use Rattle.chaos_net.specs.Queue.{QueuesCarry, SocketsPost, SocketsPostToFixedPeers, TurnsAreSteps};
 ghost use Rattle.chaos_net.specs.System.{NewSystemsStand, SystemsHold, SystemsStay};
 ghost use Rattle.chaos_net.specs.Turns.{ClientTurnsAreRuns, RunsAreRuns, client_host, client_turns, client_upon};
 
 use crate::{law_network, law_short};
-use chaos_link::{DatagramSocket, Link};
+use chaos_link::{DatagramSocket, Link, PeerKeeper};
 
 /// The law of the turns of a client, or of a node whose owner serves between turns.
 pub fn law_client_turns<L: Link>()
@@ -53,12 +53,15 @@ pub fn law_queues<L: Link>()
     ensures carry { (old new : L) → QueuesCarry (Asks (L.asked old) (L.asked new)) HostView }
 {}
 
-/// The law of a turn over UDP.
-pub fn law_sockets<S: DatagramSocket>()
+/// The laws of a turn over UDP.
+pub fn law_sockets<S: DatagramSocket, K: PeerKeeper>()
     // If a link over UDP was asked to send what a turn posts, then its socket was asked to send
     // exactly these datagrams, in order. Each goes to the UDP address of its peer, otherwise to the
-    // bridge. Nothing is sent for an address with neither.
-    ensures { SocketsPost S.asked }
+    // bridge. Nothing is sent for an address with neither. The datagrams before the turn's receive
+    // go to the peers of before, and those after it to what the keeper made of the peers.
+    ensures kept { SocketsPost S.asked K.becomes }
+    // If the peers are fixed, all datagrams go to these peers.
+    ensures fixed { SocketsPostToFixedPeers S.asked }
 {}
 
 /// The law that the laws of systems aren't empty.

@@ -1,8 +1,6 @@
-pub mod Config
-pub mod Exit
-pub mod Framed
-pub mod Hearing
-pub mod Patience
-pub mod Routes
+pub mod Asked
+pub mod ServedPeers
+pub mod Shown
 pub mod Skipped
 pub mod Status
+pub mod Typed

@@ -1,32 +1,30 @@
 //! The run of `ask`.
 ghost use Rattle.std.specs.Prelude.{◌<◌, ◌≡◌, unwrap_or};
 ghost use Rattle.chaos_link.specs.Peers.{socket_of};
-ghost use Rattle.chaosd.specs.Patience.{patience_by};
-ghost use Rattle.chaosd.specs.Routes.{IsAskedBy, asked_host};
+ghost use Rattle.chaosd_call.specs.Patience.{patience_by};
+ghost use Rattle.chaosd.specs.Asked.{IsAskedBy, asked_host};
 
-use crate::client::{contact_of, patience_of};
-use crate::config::config_of;
-use crate::exit_status::ExitStatus;
-use crate::framed::hops_of;
-use crate::network::{end_script, has_input, heard_alone};
-use crate::peer_socket::PeerSocket;
-use crate::run_ends::report_unopened;
+use crate::script_ends::end_script;
 use crate::terminal_script::{PollTerminal, Terminal, TerminalScript};
 use crate::terminals::Terminals;
-use crate::waiting::{Waiting, WaitingSocket};
 use chaos_chudp::ChudpLink;
 use chaos_conn::USUAL_WINDOW;
 use chaos_link::{Link, Peer, Peers, UdpLink};
 use chaos_node::{Epoch, NodeFault};
 use chaosd_ask::{HandleName, NOBODY, Notes, ScriptEnd, ask_script};
+use chaosd_call::{
+    ExitStatus, OpenEnds, PeerSocket, Waiting, WaitingSocket, config_of, contact_of, has_input,
+    heard_alone, hops_of, open_named, patience_of, report_unopened,
+};
 use chaosd_io::RunFault;
-use chaosd_line::{Ask, Framing};
+use chaosd_line::{Ask, AskEnds, AskTarget, Framing};
 use file_client::{Client, ClientHost, ClockDriver, Patience, Route, Timing};
 use file_copy::Shown;
 use std::fs::{File, Files};
 use std::io;
 use std::io::{Read, Write};
 use std::net::{Net, SocketAddr, SocketAddrV4, UdpSocket};
+use std::rt::Env;
 use std::time::Clock;
 
 /// The host that is asked, and a report where the line's host can't be asked.
@@ -38,7 +36,7 @@ fn asked_host<R: Eprint>(rt: &R, to: u16, peers: &Peers) -> u16
     if peers.find(to).is_some() {
         return to;
     }
-    let _ = eprintln!(rt; "chaosd: host {to:06o} is no PEER");
+    let _ = eprintln!(rt; "chaosd: host {to:o} is no PEER");
     NOBODY
 }
 
@@ -162,28 +160,28 @@ fn strict_status(status: ExitStatus, was_error: bool) -> ExitStatus {
     }
 }
 
-/// The server that this line asks, with its route and its UDP addresses. A host that can't be asked
-/// is reported.
-fn asked_of<R: Eprint>(rt: &R, line: &Ask<'_>) -> Asked
-    // The route leads from the line's host to the host that is asked, for the line's contact, by
-    // its carriage. What is kept is sent again after the time that the line gives.
-    ensures route { IsAskedBy line.now result.route }
+/// The server that is asked, with its route and its UDP addresses. A host that can't be asked is
+/// reported.
+fn asked_of<R: Eprint>(rt: &R, line: &Ask<'_>, ends: &AskEnds) -> Asked
+    // The route leads from the own end to the host that is asked, for the line's contact, by its
+    // carriage. What is kept is sent again after the time that the line gives.
+    ensures route { IsAskedBy line.now ends.now result.route }
     // A reply is waited for as long as the line says.
     ensures patience { result.patience ≡ patience_by line.now.timeout }
     // The run ends by its first error exactly where the line is strict.
     ensures is_strict { result.is_strict ≡ line.now.is_strict }
-    // The client is at the line's UDP address.
-    ensures socket { result.socket ≡ line.now.socket }
+    // The client is at the UDP address of the own end.
+    ensures socket { result.socket ≡ ends.now.socket }
     // The server is the host that is asked. Its UDP address is the one that the peers have for it,
-    // otherwise the line's own.
+    // otherwise the client's own.
     ensures server { result.server.address ≡ result.route.to }
     ensures server_socket { result.server.socket
-        ≡ unwrap_or (socket_of result.route.to line.now.peers) line.now.socket }
+        ≡ unwrap_or (socket_of result.route.to ends.now.peers) ends.now.socket }
 {
-    let to = asked_host(rt, line.to, &line.peers);
+    let to = asked_host(rt, ends.to, &ends.peers);
     Asked {
         route: Route {
-            me: line.address,
+            me: ends.address,
             to,
             contact: contact_of(line.contact),
             config: config_of(USUAL_WINDOW, line.retransmit),
@@ -191,10 +189,10 @@ fn asked_of<R: Eprint>(rt: &R, line: &Ask<'_>) -> Asked
         },
         patience: patience_of(line.timeout),
         is_strict: line.is_strict,
-        socket: line.socket,
+        socket: ends.socket,
         server: Peer {
             address: to,
-            socket: line.peers.find(to).unwrap_or(line.socket),
+            socket: ends.peers.find(to).unwrap_or(ends.socket),
         },
     }
 }
@@ -218,34 +216,56 @@ where
     end_asked(rt, asked, waiting, answered)
 }
 
+/// The ends of an `ask`, with the socket at the own end. What is missing is reported, and the error
+/// is the status.
+fn open_asked<R>(rt: &R, line: &Ask<'_>) -> Result<(AskEnds, UdpSocket), ExitStatus>
+where
+    R: AllocGlobal + Env + Eprint + Files<File = File> + Net,
+{
+    let ends = match &line.target {
+        AskTarget::Name(name) => {
+            let OpenEnds { ends, socket } = open_named(rt, name, line.hosts)?;
+            return Ok((AskEnds::from(ends), socket));
+        }
+        AskTarget::Addresses(ends) => ends,
+    };
+    let opened = match UdpSocket::bind(rt, SocketAddr::V4(ends.socket)) {
+        Ok(socket) => ends
+            .clone()
+            .map(|ends| (ends, socket))
+            .map_err(io::Error::from),
+        Err(error) => Err(error),
+    };
+    opened.map_err(|error| report_unopened(rt, &ends.socket, &error))
+}
+
 /// Runs `ask` from standard input to standard output.
 #[inline(never)]
 pub(crate) fn run_ask_line<R>(rt: &R, line: Ask<'_>, terminals: Terminals) -> ExitStatus
 where
-    R: AllocGlobal + Clock + Eprint + Files<File = File> + Input + Net + Print,
+    R: AllocGlobal + Clock + Env + Eprint + Files<File = File> + Input + Net + Print,
 {
     if !has_input(rt) {
         return end_script(rt, &Err(RunFault::ReadFault), &Notes::new());
     }
-    let asked = asked_of(rt, &line);
-    let waiting = Waiting::new(rt, asked.server, terminals.errors);
-    match UdpSocket::bind(rt, SocketAddr::V4(asked.socket)) {
-        Ok(bound) => {
-            let heard = heard_alone(asked.server, line.hears_anybody);
-            let socket = WaitingSocket::new(PeerSocket::new(rt, bound, heard), &waiting);
-            match line.framing {
-                Framing::Own(_) => {
-                    let link = UdpLink::new(socket, line.peers);
-                    ask_by_link(rt, link, &asked, &waiting, terminals)
-                }
-                Framing::Chudp(bridge) => {
-                    let hops = hops_of(line.peers.hosts(), bridge);
-                    let link = ChudpLink::new(UdpLink::new(socket, line.peers), line.address, hops);
-                    ask_by_link(rt, link, &asked, &waiting, terminals)
-                }
-            }
+    let (ends, bound) = match open_asked(rt, &line) {
+        Ok(opened) => opened,
+        Err(status) => return status,
+    };
+    let asked = asked_of(rt, &line, &ends);
+    let waiting = Waiting::new(rt, asked.server, terminals.errors && !line.is_quiet);
+    let heard = heard_alone(asked.server, line.hears_anybody);
+    let socket = WaitingSocket::new(PeerSocket::new(rt, bound, heard), &waiting);
+    match line.framing {
+        Framing::Own(_) => {
+            let link = UdpLink::new(socket, ends.peers);
+            ask_by_link(rt, link, &asked, &waiting, terminals)
         }
-        Err(error) => report_unopened(rt, &asked.socket, &error),
+        Framing::Chudp(bridge) => {
+            let hops = hops_of(ends.peers.hosts(), bridge);
+            let link = ChudpLink::new(UdpLink::new(socket, ends.peers), ends.address, hops);
+            ask_by_link(rt, link, &asked, &waiting, terminals)
+        }
     }
 }
 

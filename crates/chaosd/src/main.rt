@@ -1,45 +1,36 @@
-//! `chaosd`: a thin main over the command line (`chaosd_line`) and the engines (`chaosd_show`,
-//! `chaosd_lab`, `chaosd_ask`, `file_server`, `file_transfer` over
-//! `file_client`). It hands the words to the one, opens the folder and the sockets that they name,
-//! hands these with standard input and output to the others, and ends with their status.
+//! `chaosd`: a thin main over the command line (`chaosd_line`), the engines (`chaosd_show`,
+//! `chaosd_lab`, `chaosd_ask`, `file_server`) and the calls of a server (`chaosd_call`). It hands the
+//! words to the command line, opens the folder and the sockets that they name, hands these with
+//! standard input and output to the others, and ends with their status.
 #![tactic(auto)]
 
 ghost use Rattle.std.specs.Prelude.{◌≡◌, ◌≤◌, length, true};
 
 mod asking;
-mod changes;
-mod client;
-mod config;
-mod copies;
 mod descriptors;
-mod dialogs;
-mod exit_status;
-mod file_words;
-mod framed;
-mod network;
-mod peer_socket;
-mod progress;
-mod run_ends;
+mod looping;
 mod runs;
+mod script_ends;
+mod served_peers;
 mod serving;
 mod skipped;
 mod status;
+mod table_watch;
 mod terminal_script;
 mod terminals;
-mod waiting;
+mod typed_help;
 mod words;
 
 use crate::asking::run_ask_line;
 use crate::descriptors::fill_descriptors;
-use crate::dialogs::run_work;
-use crate::exit_status::ExitStatus;
-use crate::network::run_loop_line;
+use crate::looping::run_loop_line;
 use crate::runs::{run_script_line, run_show_line};
 use crate::serving::run_serve_line;
 use crate::skipped::skip_marked;
 use crate::status::refused_status;
 use crate::terminals::Terminals;
 use crate::words::{Mark, WordsFault, words_of};
+use chaosd_call::{ExitStatus, run_work};
 use chaosd_io::RunFault;
 use chaosd_lab::{FileStage, LabStage};
 use chaosd_line::{Line, LineFault, parse_line};
@@ -56,7 +47,7 @@ use std::time::Clock;
 /// No run is inlined here, so that none takes the stack of all.
 fn run_line<R>(rt: &R, line: Line<'_>, terminals: Terminals) -> ExitStatus
 where
-    R: AllocGlobal + Clock + Eprint + Files<File = File> + Input + Net + Print,
+    R: AllocGlobal + Clock + Env + Eprint + Files<File = File> + Input + Net + Print,
 {
     match line {
         Line::Show(show) => run_show_line(rt, show),
@@ -115,7 +106,7 @@ fn report_unread<R: Eprint>(rt: &R, fault: WordsFault) -> ExitStatus {
 /// text. The result is the exit status.
 fn run_readable<R>(rt: &R, line: Line<'_>, marks: &[Mark], terminals: Terminals) -> ExitStatus
 where
-    R: AllocGlobal + Clock + Eprint + Files<File = File> + Input + Net + Print,
+    R: AllocGlobal + Clock + Env + Eprint + Files<File = File> + Input + Net + Print,
 {
     let mut line = line;
     let is_left = match skip_marked(&mut line, marks) {

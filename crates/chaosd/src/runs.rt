@@ -1,9 +1,8 @@
 //! The runs over standard input and output alone: `show`, `lab` and `filelab`.
 ghost use Rattle.std.specs.Prelude.{◌≡◌};
-ghost use Rattle.chaosd.specs.Framed.{format_by, view_by};
+ghost use Rattle.chaosd.specs.Shown.{format_by, view_by};
 
-use crate::exit_status::ExitStatus;
-use crate::run_ends::report_end;
+use chaosd_call::{ExitStatus, report_end};
 use chaosd_io::RunFault;
 use chaosd_lab::{BadLine, Stage, run_script};
 use chaosd_line::Show;

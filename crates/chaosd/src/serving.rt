@@ -1,23 +1,29 @@
 //! The run of `serve`.
 ghost use Rattle.std.specs.Prelude.{◌<◌, ◌≡◌};
-ghost use Rattle.chaosd.specs.Config.{config_by};
+ghost use Rattle.chaosd_call.specs.Config.{config_by};
 ghost use Rattle.chaosd_line.specs.Framings.{carriage_of};
+ghost use Rattle.chaosd.specs.ServedPeers.{form_by};
 
-use crate::config::config_of;
-use crate::exit_status::ExitStatus;
-use crate::framed::hops_of;
-use crate::run_ends::report_unopened;
+use crate::served_peers::ServedPeers;
+use crate::table_watch::TableWatch;
+use arrayvec::ArrayVec;
 use chaos_chudp::ChudpLink;
 use chaos_file::{DirStore, PrintedName, ReadOnly, Store};
-use chaos_link::{Link, Peers, Reports, UdpLink};
+use chaos_link::{Link, MAX_PEERS, Peers, Reports, UdpLink};
 use chaos_node::ClockMoments;
+use chaosd_call::{
+    ExitStatus, TableFile, config_of, hops_of, hosts_in, report_table, report_unopened,
+    table_of_line,
+};
+use chaosd_hosts::{DatagramForm, FollowedHosts, Host};
 use chaosd_io::RunFault;
-use chaosd_line::{Framing, LogLevel, Serve};
-use chaosd_log::{Journal, Level, PeerSources, Topic};
+use chaosd_line::{Framing, LogLevel, Serve, ServeEnds, ServePlace};
+use chaosd_log::{Journal, Level, LogLines, PeerSources, Topic};
 use file_server::{ServeOptions, run_serve_by};
 use std::fs::{File, Files};
 use std::io;
 use std::net::{Net, SocketAddr, UdpSocket};
+use std::rt::Env;
 use std::time::Clock;
 
 /// The store of a folder, which no other store has.
@@ -92,10 +98,10 @@ fn serve_store<R: AllocGlobal + Clock + Eprint + Files<File = File>, L: Link + R
     }
 }
 
-/// The options of the service that a line asks for.
-fn options_of(line: &Serve<'_>) -> ServeOptions
-    // The host has the line's address.
-    ensures me { result.me ≡ line.now.address }
+/// The options of the service that a line asks for, at this end.
+fn options_of(line: &Serve<'_>, ends: &ServeEnds) -> ServeOptions
+    // The host has the address of the end.
+    ensures me { result.me ≡ ends.now.address }
     // The connections have the line's windows and its time to send again.
     ensures config { result.config ≡ config_by line.now.window line.now.retransmit }
     // The service makes as many turns as the line says.
@@ -104,7 +110,7 @@ fn options_of(line: &Serve<'_>) -> ServeOptions
     ensures carriage { result.carriage ≡ carriage_of line.now.framing }
 {
     ServeOptions {
-        me: line.address,
+        me: ends.address,
         config: config_of(line.window, line.retransmit),
         turns: u64::from(line.turns),
         carriage: line.framing.carriage(),
@@ -120,37 +126,80 @@ fn link_over(bound: UdpSocket, peers: Peers, hears_only_peers: bool) -> UdpLink 
     }
 }
 
+/// Where a server is and whom it knows, and the file of the hosts table that says so, if one does.
+#[derive(Drop)]
+struct Place {
+    ends: ServeEnds,
+    table: Option<TableFile>,
+}
+
+/// The form of the datagrams of a framing.
+fn form_of(framing: Framing) -> DatagramForm
+    // CHUDP has its own form; every other framing has this program's.
+    ensures { result ≡ form_by framing }
+{
+    match framing {
+        Framing::Own(_) => DatagramForm::Own,
+        Framing::Chudp(_) => DatagramForm::Chudp,
+    }
+}
+
+/// Who keeps the peers of a server.
+fn keeper_of<'a, R: AllocGlobal + Clock + Eprint + Files<File = File>>(
+    rt: &'a R,
+    line: &Serve<'_>,
+    followed: ArrayVec<u16, MAX_PEERS>,
+    table: Option<TableFile>,
+) -> ServedPeers<'a, R>
+    // These hosts are followed, in the datagrams of the line's framing.
+    ensures { result.followed ≡ record { form = form_by line.now.framing; hosts = followed.items } }
+{
+    let lines = LogLines::new(rt, line.is_timed);
+    let is_quiet = level_of(line.is_quiet, line.log) == Level::Quiet;
+    let table = match table {
+        Some(file) => Some(TableWatch::new(rt, lines, is_quiet, file)),
+        None => None,
+    };
+    ServedPeers {
+        followed: FollowedHosts::new(form_of(line.framing), followed),
+        table,
+    }
+}
+
 /// Serves a folder over a socket, and logs what comes and goes.
 fn serve_folder<R: AllocGlobal + Clock + Eprint + Files<File = File> + Net>(
     rt: &R,
-    line: Serve<'_>,
+    line: &Serve<'_>,
+    place: Place,
     folder: DirStore<&R>,
     bound: UdpSocket,
 ) -> ExitStatus {
-    let peers = match line.peers.clone() {
+    let Place { ends, table } = place;
+    let options = options_of(line, &ends);
+    let peers = match ends.peers.clone() {
         Ok(peers) => peers,
-        Err(error) => return report_unopened(rt, &line.socket, &io::Error::from(error)),
+        Err(error) => return report_unopened(rt, &ends.socket, &io::Error::from(error)),
     };
-    let options = options_of(&line);
     let level = level_of(line.is_quiet, line.log);
     let mut journal = Journal::new(rt, level, line.is_timed, PeerSources::new(peers));
-    journal.begin(line.address, line.socket, line.folder, &line.peers);
-    match line.framing {
-        Framing::Own(_) => {
-            let mut link = link_over(bound, line.peers, line.hears_only_peers);
-            serve_store(
-                rt,
-                options,
-                &mut journal,
-                &mut link,
-                folder,
-                line.is_read_only,
-            )
-        }
-        Framing::Chudp(bridge) => {
-            let hops = hops_of(line.peers.hosts(), bridge);
-            let link = link_over(bound, line.peers, line.hears_only_peers);
-            let mut link = ChudpLink::new(link, line.address, hops);
+    journal.begin(ends.address, ends.socket, line.folder, &ends.peers);
+    let hops = match line.framing {
+        Framing::Own(_) => None,
+        Framing::Chudp(bridge) => Some(hops_of(ends.peers.hosts(), bridge)),
+    };
+    let keeper = keeper_of(rt, line, ends.followed, table);
+    let mut link = link_over(bound, ends.peers, line.hears_only_peers).kept_by(keeper);
+    match hops {
+        None => serve_store(
+            rt,
+            options,
+            &mut journal,
+            &mut link,
+            folder,
+            line.is_read_only,
+        ),
+        Some(hops) => {
+            let mut link = ChudpLink::new(link, ends.address, hops);
             serve_store(
                 rt,
                 options,
@@ -163,18 +212,72 @@ fn serve_folder<R: AllocGlobal + Clock + Eprint + Files<File = File> + Net>(
     }
 }
 
+/// Where a server is by the hosts table, and whom it knows. What is missing is reported, and the
+/// error is the status.
+fn place_in_table<R>(rt: &R, line: &Serve<'_>) -> Result<Place, ExitStatus>
+where
+    R: AllocGlobal + Env + Eprint + Files<File = File>,
+{
+    let file = table_of_line(rt, line.hosts)?;
+    let table = hosts_in(rt, &file)?;
+    let name = file.name.as_str();
+    let (address, udp) = match table.selves() {
+        [own, ..] => (own.address, own.udp),
+        [] => return Err(report_table(rt, name, &"there is no entry self")),
+    };
+    let Some(socket) = udp else {
+        return Err(report_table(rt, name, &"the first entry self has no UDP address"));
+    };
+    if address == 0 {
+        return Err(report_table(rt, name, &"the first entry self has no address"));
+    }
+    let followed = table.followed();
+    if line.hears_only_peers && !followed.is_empty() {
+        return Err(report_table(rt, name, &"a host with * can't be heard with --only-peers"));
+    }
+    let ends = ServeEnds {
+        address,
+        socket,
+        followed,
+        peers: table.into_peers(),
+    };
+    Ok(Place {
+        ends,
+        table: Some(file),
+    })
+}
+
+/// Where a server is, and whom it knows. What is missing is reported, and the error is the status.
+fn place_of<R>(rt: &R, line: &Serve<'_>) -> Result<Place, ExitStatus>
+where
+    R: AllocGlobal + Env + Eprint + Files<File = File>,
+{
+    match &line.place {
+        ServePlace::Table => place_in_table(rt, line),
+        ServePlace::Addresses(ends) => match ends.clone() {
+            Ok(ends) => Ok(Place { ends, table: None }),
+            Err(error) => Err(report_unopened(rt, &ends.socket, &io::Error::from(error))),
+        },
+    }
+}
+
 /// Runs `serve` on a folder, which is opened first, and then the socket.
 #[inline(never)]
-pub(crate) fn run_serve_line<R: AllocGlobal + Clock + Eprint + Files<File = File> + Net>(
-    rt: &R,
-    line: Serve<'_>,
-) -> ExitStatus {
+pub(crate) fn run_serve_line<R>(rt: &R, line: Serve<'_>) -> ExitStatus
+where
+    R: AllocGlobal + Clock + Env + Eprint + Files<File = File> + Net,
+{
+    let place = match place_of(rt, &line) {
+        Ok(place) => place,
+        Err(status) => return status,
+    };
     let folder = match store_at(rt, line.folder) {
         Ok(folder) => folder,
         Err(error) => return report_unopened(rt, &PrintedName(line.folder), &error),
     };
-    match UdpSocket::bind(rt, SocketAddr::V4(line.socket)) {
-        Ok(bound) => serve_folder(rt, line, folder, bound),
-        Err(error) => report_unopened(rt, &line.socket, &error),
+    let socket = place.ends.socket;
+    match UdpSocket::bind(rt, SocketAddr::V4(socket)) {
+        Ok(bound) => serve_folder(rt, &line, place, folder, bound),
+        Err(error) => report_unopened(rt, &socket, &error),
     }
 }

@@ -5,7 +5,7 @@ ghost use Rattle.chaosd.specs.declared.words.WordsFault.TheVariants.{NotText};
 
 use crate::words::{Mark, WordsFault};
 use chaosd_line::Line;
-use file_transfer::Named;
+use file_names::Named;
 
 /// Whether a name is a mark's text.
 fn is_text_of(mark: &Mark, name: &str) -> bool

@@ -1,9 +1,9 @@
 //! The exit status of a line that asks for nothing, and of a run.
 ghost use Rattle.std.specs.Prelude.{◌≡◌};
-ghost use Rattle.chaosd.specs.Exit.{number_of};
+ghost use Rattle.chaosd_call.specs.Exit.{number_of};
 ghost use Rattle.chaosd.specs.Status.{refused_status_of};
 
-use crate::exit_status::ExitStatus;
+use chaosd_call::ExitStatus;
 use chaosd_line::LineFault;
 
 /// The status after a refused line, by whether the user could be shown its text.

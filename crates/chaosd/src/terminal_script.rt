@@ -1,9 +1,13 @@
 //! A script as it is typed.
 ghost use Rattle.std.specs.Prelude.{◌≡◌, ◌≤◌, ◌+◌, length, IfOk};
 ghost use Rattle.std.specs.Counts.{IsPrefixLen};
+ghost use Rattle.chaosd.specs.Typed.{number_behind};
+ghost use Rattle.chaosd_ask.specs.declared.typed.TheConstants.{MAX_TYPED};
 
-use chaosd_ask::{InputReady, ReplyNotes, read_command};
+use crate::typed_help::show_help;
+use chaosd_ask::{Front, InputReady, MAX_TYPED, ReplyNotes, read_command, write_front};
 use chaosd_io::Data;
+use std::fmt::Display;
 use std::fs::File;
 use std::io;
 use std::io::{ErrorKind, Read};
@@ -21,10 +25,42 @@ pub(crate) struct Terminal {
     pub(crate) file: Option<File>,
 }
 
-/// A script that is read from standard input. On a terminal it asks for each line by a prompt, and
-/// leaves out and reports a line that stands for no command. Where a run is to end by its first
-/// error, it gives a line at a time, and none behind an error. It can be asked whether a line was
-/// typed.
+/// The tid of a command that is typed without one has the number behind the last such tid.
+fn number_behind(number: u32) -> u32
+    requires { number ≤ MAX_TYPED }
+    // The number is the next one, and behind the greatest number it is 1.
+    ensures value { result ≡ number_behind number }
+    ensures within { result ≤ MAX_TYPED }
+{
+    if number == MAX_TYPED { 1 } else { number + 1 }
+}
+
+/// What somebody types in place of a command.
+#[derive(Clone, Copy, PartialEq, Eq)]
+enum Word {
+    /// To be shown what commands there are.
+    Help,
+    /// To end.
+    Quit,
+}
+
+impl Word {
+    /// The word that a line is, where it is one.
+    fn of(line: &[u8]) -> Option<Self> {
+        if line == b"help".as_slice() || line == b"?".as_slice() {
+            Some(Word::Help)
+        } else if line == b"quit".as_slice() {
+            Some(Word::Quit)
+        } else {
+            None
+        }
+    }
+}
+
+/// A script that is read from standard input. On a terminal it asks for each line by a prompt. It
+/// puts a tid in front of a command that is typed without one, and shows that. It leaves out and
+/// reports a line that stands for no command. Where a run is to end by its first error, it gives a
+/// line at a time, and none behind an error. It can be asked whether a line was typed.
 #[derive(Drop)]
 pub(crate) struct TerminalScript<'a, R: Eprint, I: Read> {
     rt: &'a R,
@@ -38,12 +74,18 @@ pub(crate) struct TerminalScript<'a, R: Eprint, I: Read> {
     /// What of the chunk came, and was given.
     came: usize,
     given: usize,
+    /// Whether the line that is given next was looked at, and a part of it given.
+    is_seen: bool,
+    is_begun: bool,
+    /// The number of the tid for the next command that is typed without one.
+    number: u32,
     /// Whether a prompt was shown to which nothing came yet.
     is_prompted: bool,
     /// Whether the script has ended.
     is_over: bool,
     ghost within: { given ≤ came },
     ghost fits: { came ≤ 4096 },
+    ghost numbered: { number ≤ MAX_TYPED },
 }
 
 /// How long the first line is, with what ends it.
@@ -76,6 +118,9 @@ impl<'a, R: Eprint, I: Read> TerminalScript<'a, R, I> {
             chunk: [0; CHUNK],
             came: 0,
             given: 0,
+            is_seen: false,
+            is_begun: false,
+            number: 1,
             is_prompted: false,
             is_over: false,
         }
@@ -94,21 +139,93 @@ impl<'a, R: Eprint, I: Read> TerminalScript<'a, R, I> {
         let _ = eprint!(self.rt; "> ");
     }
 
-    /// Whether the line of this length that is given next is left out, which is reported.
-    fn is_left_out(&self, length: usize) -> bool
-        requires { self.now.given + length ≤ self.now.came }
+    /// The next line, with what ends it.
+    fn next_line(&self) -> &[u8]
+        // The line is no longer than what came and wasn't given.
+        ensures { length result.now + self.now.given ≤ self.now.came }
     {
-        if !self.terminal.is_typed || length == 0 {
+        let rest = &self.chunk[self.given..self.came];
+        &rest[..line_length(rest)]
+    }
+
+    /// Looks at the next line that somebody typed, once.
+    fn see_line(&mut self) {
+        self.is_seen = true;
+        match Word::of(bare(self.next_line())) {
+            Some(Word::Help) if !self.is_begun => {
+                show_help(self.rt);
+                self.pass_line();
+            }
+            Some(Word::Quit) if !self.is_begun => self.is_over = true,
+            _ => self.see_command(),
+        }
+    }
+
+    /// Looks at the next line, which is to be a command: its tid is put in front where that is
+    /// missing. A line that stands for no command is passed by, and that is reported.
+    fn see_command(&mut self) {
+        let mut command = Data::new();
+        let mut front = Front::new();
+        if let Err(wrong) = read_command(bare(self.next_line()), &mut command) {
+            return self.refuse_line(&wrong);
+        }
+        if self.is_begun {
+            return;
+        }
+        write_front(command.as_slice(), self.number, &mut front);
+        if front.is_empty() {
+            return;
+        }
+        if !self.put_in_front(front.as_slice()) {
+            return self.refuse_line(&"there is no room for a tid");
+        }
+        self.number = number_behind(self.number);
+        if let Err(wrong) = read_command(bare(self.next_line()), &mut command) {
+            return self.refuse_line(&wrong);
+        }
+        if let Ok(line) = str::from_utf8(bare(self.next_line())) {
+            let _ = eprintln!(self.rt; "> {line}");
+        }
+    }
+
+    /// Reports that the next line isn't sent, and why, and passes it by.
+    fn refuse_line<D: Display>(&mut self, why: &D) {
+        let _ = eprintln!(self.rt; "chaosd: not sent: {why}");
+        self.pass_line();
+    }
+
+    /// Passes the next line by.
+    fn pass_line(&mut self) {
+        let length = self.next_line().len();
+        self.step(length);
+    }
+
+    /// Goes on by so many bytes of the next line.
+    fn step(&mut self, length: usize)
+        requires { self.old.given + length ≤ self.old.came }
+    {
+        let line = &self.chunk[self.given..self.given + length];
+        if let Some(last) = line.last() {
+            self.is_begun = *last != b'\n';
+        }
+        self.given += length;
+        self.is_seen = self.is_begun && self.given < self.came;
+    }
+
+    /// Puts these bytes in front of what wasn't given yet. Says whether there was room.
+    fn put_in_front(&mut self, front: &[u8]) -> bool {
+        let rest = self.came - self.given;
+        let came = front.len() + rest;
+        if came > CHUNK {
             return false;
         }
-        let line = &self.chunk[self.given..self.given + length];
-        match read_command(bare(line), &mut Data::new()) {
-            Ok(()) => false,
-            Err(wrong) => {
-                let _ = eprintln!(self.rt; "chaosd: not sent: {wrong}");
-                true
-            }
-        }
+        let mut chunk = [0; CHUNK];
+        chunk[..front.len()].copy_from_slice(front);
+        chunk[front.len()..came].copy_from_slice(&self.chunk[self.given..self.came]);
+        self.chunk = chunk;
+        self.given = 0;
+        self.came = came;
+        true
     }
 
     /// Reads up to 4,096 bytes once.
@@ -131,6 +248,7 @@ impl<'a, R: Eprint, I: Read> TerminalScript<'a, R, I> {
         let count = self.read_once(may_wait)?;
         self.given = 0;
         self.came = count;
+        self.is_seen = false;
         self.is_prompted = false;
         if self.came == 0 {
             self.is_over = true;
@@ -153,11 +271,10 @@ impl<'a, R: Eprint, I: Read> TerminalScript<'a, R, I> {
             if self.given == self.came {
                 self.fill(may_wait)?;
             }
-            let length = line_length(&self.chunk[self.given..self.came]).min(most);
-            if !self.is_left_out(length) {
-                return Ok(length);
+            if self.is_seen || self.is_over || !self.terminal.is_typed {
+                return Ok(self.next_line().len().min(most));
             }
-            self.given += length;
+            self.see_line();
         }
         Ok(0)
     }
@@ -170,7 +287,7 @@ impl<'a, R: Eprint, I: Read> TerminalScript<'a, R, I> {
         let length = self.find(buf.len(), true)?;
         let from = self.given;
         buf[..length].copy_from_slice(&self.chunk[from..from + length]);
-        self.given += length;
+        self.step(length);
         Ok(length)
     }
 

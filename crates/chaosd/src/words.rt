@@ -1,9 +1,9 @@
 //! The words of the command line, as the system hands them over.
 ghost use Rattle.std.specs.Prelude.{◌≡◌};
-ghost use Rattle.chaosd.specs.Exit.{number_of};
+ghost use Rattle.chaosd_call.specs.Exit.{number_of};
 ghost use Rattle.chaosd.specs.Status.{words_status};
 
-use crate::exit_status::ExitStatus;
+use chaosd_call::ExitStatus;
 use std::alloc::{AllocError, Global};
 use std::env::FillError;
 use std::rt::Env;

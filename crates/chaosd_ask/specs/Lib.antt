@@ -5,3 +5,4 @@ pub mod Conversation
 pub mod Asking
 pub mod Notes
 pub mod Serving
+pub mod Typed

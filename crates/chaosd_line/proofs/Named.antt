@@ -46,7 +46,7 @@ last_kept text i start d lt le e ne =
     (last_more text i d lt
     ∙ ap (λ b. if b then [] else last_of (take i text) ++ get_or text i d ∷ []) (apart (get_or text i d) ne))
 
-any_of : {A T : Type 0} (p : A → Bool) (text : T → A) (ts : List T)
+pub any_of : {A T : Type 0} (p : A → Bool) (text : T → A) (ts : List T)
     → list_any p (map text ts) ≡ list_any (λ t. p (text t)) ts
 any_of p text [] = refl
 any_of p text (t ∷ ts) = ap (λ b. p (text t) || b) (any_of p text ts)

@@ -1,14 +1,10 @@
 -- The command that `chaosd` takes: a row for each subcommand, with its name and the rules of its words.
-use Rattle.std.specs.Prelude.{◌++◌, ◌∷◌, List, true, Some, [], codes}
+use Rattle.std.specs.Prelude.{◌++◌, ◌∷◌, ℕ, List, true, Some, [], codes}
 use Rattle.clap.specs.declared.builder.action.ArgAction.TheVariants.{SetTrue}
 use Rattle.clap.specs.Lexer.{usize_max}
 use Rattle.clap.specs.Words.{App, Rule, Text, new_app, new_rule, with_subcommand}
 use Rattle.chaosd_line.specs.declared.sub.SubName.{SubName}
 use Rattle.chaosd_line.specs.declared.sub.SubName.TheVariants as name
-
--- a word that has to be given
-abbrev pub needed : Text → Rule
-needed id = record (new_rule id) { required = true }
 
 -- an option with a value that stands where it isn't given
 abbrev pub with_default : Text → Text → Rule
@@ -32,15 +28,13 @@ flag id = record (new_rule id) {
   action = Some SetTrue;
 }
 
--- words of which any number may be given
-abbrev pub any_words : Text → Rule
-any_words id = record (new_rule id) {
-  range = Some (record { start_inclusive = 0; end_inclusive = usize_max });
-}
+-- an option or a flag that has a short name too: a letter
+abbrev pub with_short : ℕ → Rule → Rule
+with_short letter rule = record rule { short = Some letter }
 
 -- words of which there is one at least
-abbrev pub file_words : Text → Rule
-file_words id = record (new_rule id) {
+abbrev pub some_words : Text → Rule
+some_words id = record (new_rule id) {
   range = Some (record { start_inclusive = 1; end_inclusive = usize_max });
   required = true;
 }
@@ -62,27 +56,33 @@ contact_option = with_default (codes "contact") (codes "FILE")
 abbrev pub retransmit_option : Rule
 retransmit_option = with_default (codes "retransmit") (codes "500")
 
+-- -q, -v and -t
+abbrev pub report_rules : List Rule → List Rule
+report_rules more = with_short 113 (flag (codes "quiet")) ∷ with_short 118 (flag (codes "verbose")) ∷ more
+
+abbrev pub timeout_option : Rule
+timeout_option = with_short 116 (optional (codes "timeout"))
+
+-- the words that a subcommand's own function takes apart
+abbrev pub word_rules : List Rule
+word_rules = optional (codes "hosts") ∷ some_words (codes "WORD") ∷ []
+
 -- of all that call a server
 abbrev pub call_rules : List Rule → List Rule
 call_rules more = framing_rules
     (contact_option
     ∷ with_default (codes "login") (codes "CHAOSD")
     ∷ with_default (codes "window") (codes "64")
-    ∷ optional (codes "timeout")
+    ∷ timeout_option
     ∷ flag (codes "any-source")
-    ∷ more)
+    ∷ report_rules more)
 
--- of `get` and `put`
-abbrev pub copy_rules : List Rule → List Rule
-copy_rules more = call_rules (flag (codes "text") ∷ flag (codes "quiet") ∷ flag (codes "verbose") ∷ more)
+-- -o and -r
+abbrev pub output_option : Rule
+output_option = with_short 111 (optional (codes "output"))
 
--- this host's own addresses
-abbrev pub own_rules : List Rule → List Rule
-own_rules more = needed (codes "ADDRESS") ∷ needed (codes "UDP") ∷ more
-
--- the server beside them
-abbrev pub server_rules : List Rule → List Rule
-server_rules more = own_rules (needed (codes "SERVER") ∷ more)
+abbrev pub recursive_flag : Rule
+recursive_flag = with_short 114 (flag (codes "recursive"))
 
 -- each subcommand, with the rules of its words in the order of its table
 abbrev pub sub : Text → List Rule → App
@@ -98,27 +98,30 @@ app_named name.Serve = sub (codes "serve")
     ∷ framing_rules
     (with_default (codes "window") (codes "13")
     ∷ retransmit_option
-    ∷ flag (codes "quiet")
+    ∷ with_short 113 (flag (codes "quiet"))
     ∷ with_default (codes "log") (codes "normal")
     ∷ flag (codes "log-time")
     ∷ flag (codes "only-peers")
     ∷ flag (codes "read-only")
-    ∷ own_rules (needed (codes "FOLDER") ∷ any_words (codes "PEER") ∷ [])))
+    ∷ word_rules))
 app_named name.Ask = sub (codes "ask")
     (framing_rules
     (contact_option
-    ∷ optional (codes "timeout")
+    ∷ timeout_option
     ∷ retransmit_option
     ∷ flag (codes "any-source")
     ∷ flag (codes "strict")
-    ∷ own_rules (needed (codes "TO") ∷ any_words (codes "PEER") ∷ [])))
-app_named name.Get =
-    sub (codes "get") (copy_rules (optional (codes "output") ∷ server_rules (file_words (codes "PATH") ∷ [])))
+    ∷ report_rules word_rules))
+app_named name.Get = sub (codes "get") (call_rules (flag (codes "text") ∷ output_option ∷ word_rules))
 app_named name.Put = sub (codes "put")
-    (copy_rules (flag (codes "rename") ∷ optional (codes "as") ∷ server_rules (file_words (codes "LOCAL") ∷ [])))
-app_named name.Delete = sub (codes "delete") (call_rules (server_rules (file_words (codes "PATH") ∷ [])))
-app_named name.Rename =
-    sub (codes "rename") (call_rules (server_rules (needed (codes "OLD") ∷ needed (codes "NEW") ∷ [])))
+    (call_rules
+    (flag (codes "text")
+    ∷ flag (codes "rename")
+    ∷ optional (codes "as")
+    ∷ recursive_flag
+    ∷ word_rules))
+app_named name.Delete = sub (codes "delete") (call_rules word_rules)
+app_named name.Rename = sub (codes "rename") (call_rules word_rules)
 
 -- the subcommands in the order of the help
 abbrev pub sub_names : List SubName

@@ -1,10 +1,11 @@
 -- The files of a line, of which some are the server's and some are local.
-use Rattle.std.specs.Prelude.{◌==◌, ◌-◌, ◌&&◌, ◌||◌, ◌++◌, ◌∷◌, ℕ, Bool, true, false, not, List, [], Option, None, Some, slice_get, if◌then◌else◌, codes, length, map, option_map, unwrap_or}
+use Rattle.std.specs.Prelude.{◌==◌, ◌&&◌, ◌||◌, ◌++◌, ◌∷◌, ℕ, Bool, true, false, not, List, [], Option, None, Some, if◌then◌else◌, codes, length, map, option_map, unwrap_or}
 use Rattle.std.specs.List.{find, list_all, list_any}
 use Rattle.std.specs.Str.{bytes_eq}
 use Rattle.clap.specs.Words.{Text}
 use Rattle.chaos_file.specs.Names.{is_path, is_path_byte}
-use Rattle.file_transfer.specs.declared.naming.PutFile.{PutFile}
+use Rattle.file_names.specs.Destination.{is_folder}
+use Rattle.file_names.specs.declared.put_file.PutFile.{PutFile}
 
 -- what stands behind the last slash (47)
 abbrev pub last_from : Text → Text → Text
@@ -75,15 +76,6 @@ is_file text = not (bytes_eq text (codes "-"))
 
 abbrev pub are_locals : Bool → List Text → Bool
 are_locals is_renaming texts = list_all is_file texts && are_apart (goes_same is_renaming) texts
-
--- a slash (47)
-abbrev pub is_slash : Option ℕ → Bool
-is_slash None = false
-is_slash (Some b) = b == 47
-
--- a name that ends with a slash is a folder's
-abbrev pub is_folder : Text → Bool
-is_folder text = is_slash (slice_get text (length text - 1))
 
 -- a local file's name is for one file alone, and a folder's for any number
 abbrev pub fits_output : Option Text → List Text → Bool

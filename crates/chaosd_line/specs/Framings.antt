@@ -4,7 +4,8 @@ use Rattle.std.specs.Option.{option_and_then, option_zip}
 use Rattle.clap.specs.Words.{Row}
 use Rattle.chaos_link.specs.declared.carriage.Carriage.{Carriage}
 use Rattle.chaos_link.specs.declared.carriage.Carriage.TheVariants.{One, Two}
-use Rattle.chaosd_line.specs.Values.{address_of, flag_of, given, given_if, version_of}
+use Rattle.chaosd_hosts.specs.Addresses.{address_of}
+use Rattle.chaosd_line.specs.Values.{flag_of, given, given_if, version_of}
 use Rattle.chaosd_line.specs.declared.framing.Framing.{Framing}
 use Rattle.chaosd_line.specs.declared.framing.Framing.TheVariants.{Chudp, Own}
 

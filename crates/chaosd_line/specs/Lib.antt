@@ -1,7 +1,12 @@
 pub mod CommandLine
 pub mod Fault
 pub mod Files
+pub mod Followed
 pub mod Framings
+pub mod Hosts
 pub mod Lines
+pub mod Places
 pub mod Plan
+pub mod Remote
+pub mod Targets
 pub mod Values

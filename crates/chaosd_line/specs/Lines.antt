@@ -1,14 +1,17 @@
 -- The line that the words ask for: a function of the subcommand and the values that clap gives.
-use Rattle.std.specs.Prelude.{◌≡◌, ◌==◌, ◌&&◌, ⊤, Bool, List, not, None, Option, Some, Result, MatchResult, codes, map, option_map, if◌then◌else◌}
+use Rattle.std.specs.Prelude.{◌≡◌, ◌&&◌, ⊤, Bool, List, not, None, Option, Some, Result, MatchResult, codes, map, option_map, if◌then◌else◌}
 use Rattle.std.specs.Option.{option_and_then, option_zip}
 use Rattle.std.specs.Result.{result_ok}
 use Rattle.std.specs.Str.{bytes_eq}
 use Rattle.clap.specs.Words.{Row, Text, first_of, subcommand_of}
 use Rattle.chaos_link.specs.declared.carriage.Carriage.{Carriage}
 use Rattle.chaosd_line.specs.CommandLine.{chaosd}
-use Rattle.chaosd_line.specs.Files.{are_paths, file_view, fits_output, put_files}
+use Rattle.chaosd_line.specs.Files.{file_view, fits_output, put_files}
 use Rattle.chaosd_line.specs.Framings.{framing_at}
-use Rattle.chaosd_line.specs.Values.{address_of, flag_of, given, given_if, kept_if, log_of, peer_of, peers_of, retransmit_of, seconds_of, socket_of, turns_of, version_of, window_of, word_of, words_of}
+use Rattle.chaosd_line.specs.Places.{hosts_in, words_in}
+use Rattle.chaosd_line.specs.Remote.{file_paths, local_words, new_path, old_path, output_with, remote_words}
+use Rattle.chaosd_line.specs.Targets.{ask_target, ask_view, call_target, follows, place_view, serve_folder, serve_place, target_view}
+use Rattle.chaosd_line.specs.Values.{flag_of, given, given_if, kept_if, log_of, retransmit_of, seconds_of, turns_of, version_of, window_of, word_of}
 use Rattle.chaosd_line.specs.declared.line.Ask.{Ask}
 use Rattle.chaosd_line.specs.declared.line.Calling.{Calling}
 use Rattle.chaosd_line.specs.declared.line.Copying.{Copying}
@@ -22,6 +25,8 @@ use Rattle.chaosd_line.specs.declared.line.Serve.{Serve}
 use Rattle.chaosd_line.specs.declared.line.Show.{Show}
 use Rattle.chaosd_line.specs.declared.line_problem.LineProblem.{LineProblem}
 use Rattle.chaosd_line.specs.declared.line_problem.LineProblem.TheVariants.{Bad, Clash, NoMemory}
+use Rattle.chaosd_line.specs.declared.target.HostWord.{HostWord}
+use Rattle.chaosd_line.specs.declared.target.HostWord.TheVariants as host
 use Rattle.chaosd_line.specs.declared.word.Word.TheVariants as word
 
 -- How the values of a line are read: what is seen of them, wherever their texts lie, and what that is by the words at their places.
@@ -55,12 +60,21 @@ only_if reading test = record {
   value = λ rows. option_and_then (kept_if test) (reading.value rows);
 }
 
+-- values of which none is there if a flag is given
+abbrev pub only_without : {T : Type 0} → Text → Reading T → Reading T
+only_without flag reading = record {
+  View = reading.View;
+  view = reading.view;
+  value = λ rows. option_and_then (λ is_given. if is_given then None else reading.value rows) (given flag_of flag rows);
+}
+
 -- ---- the values of each subcommand
 
 unfoldable pub show : Reading Show
 show = field (λ s. s.is_file) (given flag_of (codes "file"))
     & field (λ s. s.is_chudp) (given flag_of (codes "chudp"))
 
+-- a host whose UDP address isn't known can't be heard alone
 unfoldable pub serve : Reading Serve
 serve = field (λ s. s.turns) (given turns_of (codes "turns"))
     & field (λ s. s.framing) framing_at
@@ -69,14 +83,12 @@ serve = field (λ s. s.turns) (given turns_of (codes "turns"))
     & field (λ s. s.is_quiet) (given flag_of (codes "quiet"))
     & field (λ s. s.log) (given log_of (codes "log"))
     & field (λ s. s.is_timed) (given flag_of (codes "log-time"))
-    & field (λ s. s.hears_only_peers) (given flag_of (codes "only-peers"))
     & field (λ s. s.is_read_only) (given flag_of (codes "read-only"))
-    & field (λ s. s.address) (given address_of (codes "ADDRESS"))
-    & field (λ s. s.socket) (given socket_of (codes "UDP"))
-    & field (λ s. s.folder.now) (given (word_of word.Any) (codes "FOLDER"))
-    & field (λ s. s.peers) (λ rows. peers_of (words_of (codes "PEER") rows))
+    & field (λ s. option_map (λ t. t.now) s.hosts) hosts_in
+    & field (λ s. s.folder.now) (λ rows. serve_folder (words_in rows))
+    & only_if (field (λ s. s.hears_only_peers) (given flag_of (codes "only-peers"))
+    & field (λ s. place_view s.place) (λ rows. serve_place (words_in rows))) (λ v. not (v.0 && follows v.1))
 
--- `ask` asks another host
 unfoldable pub ask : Reading Ask
 ask = field (λ a. a.framing) framing_at
     & field (λ a. a.contact.now) (given (word_of word.Contact) (codes "contact"))
@@ -84,55 +96,63 @@ ask = field (λ a. a.framing) framing_at
     & field (λ a. a.retransmit) (given retransmit_of (codes "retransmit"))
     & field (λ a. a.hears_anybody) (given flag_of (codes "any-source"))
     & field (λ a. a.is_strict) (given flag_of (codes "strict"))
-    & only_if (field (λ a. a.address) (given address_of (codes "ADDRESS"))
-    & field (λ a. a.socket) (given socket_of (codes "UDP"))
-    & field (λ a. a.to) (given address_of (codes "TO"))) (λ v. not (v.1.1 == v.0))
-    & field (λ a. a.peers) (λ rows. peers_of (words_of (codes "PEER") rows))
+    & field (λ a. a.is_quiet) (given flag_of (codes "quiet"))
+    & field (λ a. a.is_verbose) (given flag_of (codes "verbose"))
+    & field (λ a. option_map (λ t. t.now) a.hosts) hosts_in
+    & field (λ a. ask_view a.target) (λ rows. ask_target (words_in rows))
 
--- of all that call a server, which is another host
-unfoldable pub calling : Reading Calling
-calling = field (λ c. c.framing) framing_at
+-- of all that call a server, but for the server
+unfoldable pub call_options : Reading Calling
+call_options = field (λ c. c.framing) framing_at
     & field (λ c. c.contact.now) (given (word_of word.Contact) (codes "contact"))
     & field (λ c. c.login.now) (given (word_of word.Login) (codes "login"))
     & field (λ c. c.window) (given window_of (codes "window"))
     & field (λ c. c.timeout) (given_if seconds_of (codes "timeout"))
     & field (λ c. c.hears_anybody) (given flag_of (codes "any-source"))
-    & only_if (field (λ c. c.address) (given address_of (codes "ADDRESS"))
-    & field (λ c. c.socket) (given socket_of (codes "UDP"))
-    & field (λ c. c.server) (given peer_of (codes "SERVER"))) (λ v. not (v.1.1.address == v.0))
+    & field (λ c. option_map (λ t. t.now) c.hosts) hosts_in
+
+-- with the server, which these words name
+abbrev pub calling : HostWord → (List Text → List Text) → Reading Calling
+calling place words =
+    call_options & field (λ c. target_view c.target) (λ rows. call_target place (words (words_in rows)))
 
 -- of `get` and `put`
-unfoldable pub copying : Reading Copying
-copying = within (λ c. c.calling) calling
+abbrev pub copying : HostWord → (List Text → List Text) → Reading Copying
+copying place words = within (λ c. c.calling) (calling place words)
     & field (λ c. c.is_text) (given flag_of (codes "text"))
     & field (λ c. c.is_quiet) (given flag_of (codes "quiet"))
     & field (λ c. c.is_verbose) (given flag_of (codes "verbose"))
 
 -- `get` has paths that differ, and a local file for one of them alone
 unfoldable pub get : Reading Get
-get = only_if (within (λ g. g.copying) copying
-    & field (λ g. option_map (λ t. t.now) g.output) (λ rows. Some (first_of (codes "output") rows))
-    & field (λ g. map (λ t. t.now) g.paths.items) (λ rows. Some (words_of (codes "PATH") rows)))
-    (λ v. are_paths v.1.1 && fits_output v.1.0 v.1.1)
+get = only_if (within (λ g. g.copying) (copying host.First remote_words)
+    & field (λ g. option_map (λ t. t.now) g.output) (λ rows. output_with (first_of (codes "output") rows) (words_in rows))
+    & field (λ g. map (λ t. t.now) g.paths.items) (λ rows. file_paths (remote_words (words_in rows))))
+    (λ v. fits_output v.1.0 v.1.1)
 
 -- `put` has files with their paths: paths of their own, or for one file the path that is given
 abbrev pub files_at : List Row → Option (List (Text × Option Text))
 files_at rows = option_and_then
-    (λ is_renaming. put_files is_renaming (first_of (codes "as") rows) (words_of (codes "LOCAL") rows))
-    (given flag_of (codes "rename") rows)
+    (λ v. put_files v.0 (first_of (codes "as") rows) v.1)
+    (option_zip (given flag_of (codes "rename") rows) (local_words (words_in rows)))
 
+-- FILE has no folders, so `--recursive` asks for nothing
 unfoldable pub put : Reading Put
-put = within (λ p. p.copying) copying & field (λ p. map file_view p.files.items) files_at
+put = only_without (codes "recursive") (within (λ p. p.copying) (copying host.Last (λ words. words))
+    & field (λ p. map file_view p.files.items) files_at)
 
 unfoldable pub delete : Reading Delete
-delete = only_if (within (λ d. d.calling) calling
-    & field (λ d. map (λ t. t.now) d.paths.items) (λ rows. Some (words_of (codes "PATH") rows)))
-    (λ v. are_paths v.1)
+delete = within (λ d. d.calling) (calling host.First (λ words. words))
+    & field (λ d. d.is_quiet) (given flag_of (codes "quiet"))
+    & field (λ d. d.is_verbose) (given flag_of (codes "verbose"))
+    & field (λ d. map (λ t. t.now) d.paths.items) (λ rows. file_paths (words_in rows))
 
 unfoldable pub rename : Reading Rename
-rename = within (λ r. r.calling) calling
-    & field (λ r. r.from.now) (given (word_of word.Path) (codes "OLD"))
-    & field (λ r. r.to.now) (given (word_of word.Path) (codes "NEW"))
+rename = within (λ r. r.calling) (calling host.First (λ words. words))
+    & field (λ r. r.is_quiet) (given flag_of (codes "quiet"))
+    & field (λ r. r.is_verbose) (given flag_of (codes "verbose"))
+    & field (λ r. r.from.now) (λ rows. old_path (words_in rows))
+    & field (λ r. r.to.now) (λ rows. new_path (words_in rows))
 
 -- ---- lines
 

@@ -8,6 +8,10 @@ use std::alloc::{AllocError, Global};
 pub(crate) const ENTRY_FORM: &str =
     "a Chaosnet address or `*`, then `=` and a UDP address with a port from 1 to 65535, such as 402=127.0.0.1:9002";
 
+/// The form of a host that is followed.
+pub(crate) const FOLLOWED_FORM: &str =
+    "a Chaosnet address in front of `=*`, such as 402=*: 1 to 6 octal digits, from 1 to 177777";
+
 /// The form of the peers where two are a bridge.
 pub(crate) const BRIDGE_ONCE_FORM: &str = "at most one bridge";
 
@@ -29,6 +33,41 @@ pub(crate) const LOCALS_FORM: &str = "a name for standard input, given with --as
 
 /// The form of the host that is called.
 pub(crate) const OTHER_FORM: &str = "a Chaosnet address other than this host's own";
+
+/// The form of a name of a host.
+pub(crate) const HOST_FORM: &str =
+    "a host's name: 1 to 64 letters, digits, hyphens and dots, one of them a letter";
+
+/// The form of a word that names a file of a host.
+pub(crate) const HOST_PATH_FORM: &str = "a host's name, a colon and a path, such as lispm:A.LISP";
+
+/// The form of the word that names the host of `put`.
+pub(crate) const BARE_HOST_FORM: &str =
+    "a host's name and a colon at the end of the line, such as lispm:";
+
+/// The form of words that name files of one host.
+pub(crate) const ONE_HOST_FORM: &str = "one host in the whole line";
+
+/// The form of a path that was to be a pattern.
+pub(crate) const PATTERN_FORM: &str = "a path without * and ?. FILE has no listing: name each file";
+
+/// Why a host that is followed doesn't go with `serve --only-peers`.
+pub(crate) const UNKNOWN_PLACE: &str =
+    "can't be used with '--only-peers', because no UDP address of that host is known";
+
+/// Why a host that is followed doesn't go with `ask`.
+pub(crate) const ASK_FOLLOWS: &str =
+    "can't be used, because ask sends first and needs a UDP address";
+
+/// Why the hosts table doesn't go with a line in the long form.
+pub(crate) const SHORT_FORM: &str =
+    "can't be used in a line that begins with ADDRESS, because such a line has all addresses itself";
+
+/// Why a folder isn't put.
+pub(crate) const NO_FOLDERS: &str = "FILE has no folders: name the files, as in DIR/*";
+
+/// Why a place for the files doesn't go with another one.
+pub(crate) const ONE_PLACE: &str = "can't be used where the last word says where the files go";
 
 /// Why a carriage doesn't go with the other words.
 pub(crate) const ONE_PACKET: &str =
@@ -78,6 +117,12 @@ pub(crate) enum Problem<'a> {
     Form(&'a str),
     /// The word is of its form, but it doesn't go with the others, for this reason.
     Misfit(&'a str),
+    /// There is no word at the place, which is beside this other one.
+    Missing(&'a str),
+    /// The line has no place for the word.
+    Extra,
+    /// The flag asks for what can't be, for this reason.
+    Impossible(&'a str),
 }
 
 /// A word that is not of its form, or that doesn't go with the others.
@@ -112,6 +157,33 @@ impl<'a> BadValue<'a> {
         }
     }
 
+    /// That there is no word at a place.
+    pub(crate) fn missing(place: &'a str, beside: &'a str) -> BadValue<'a> {
+        BadValue {
+            text: "",
+            place,
+            problem: Problem::Missing(beside),
+        }
+    }
+
+    /// A word for which the line has no place.
+    pub(crate) fn extra(text: &'a str) -> BadValue<'a> {
+        BadValue {
+            text,
+            place: "",
+            problem: Problem::Extra,
+        }
+    }
+
+    /// A flag that asks for what can't be.
+    pub(crate) fn impossible(flag: &'a str, reason: &'a str) -> BadValue<'a> {
+        BadValue {
+            text: "",
+            place: flag,
+            problem: Problem::Impossible(reason),
+        }
+    }
+
     /// The message to the user.
     pub(crate) fn message(&self, alloc: Global) -> Result<String, AllocError> {
         let place = self.place;
@@ -123,6 +195,11 @@ impl<'a> BadValue<'a> {
             }
             Problem::Misfit(reason) => {
                 format!(in alloc; "the argument '{dashes}{place} {text}' {reason}")
+            }
+            Problem::Missing(beside) => format!(in alloc; "the line needs {place} {beside}"),
+            Problem::Extra => format!(in alloc; "unexpected argument '{text}' found"),
+            Problem::Impossible(reason) => {
+                format!(in alloc; "the flag '{dashes}{place}' can't be used: {reason}")
             }
         }
     }

@@ -1,27 +1,25 @@
 //! The values that clap gives for the callers of a server, and those of `delete` and `rename`.
-ghost use Rattle.std.specs.Prelude.{◌≡◌, codes, map, IfOk};
+ghost use Rattle.std.specs.Prelude.{◌≡◌, codes, map, option_map};
+ghost use Rattle.std.specs.Option.{option_zip};
 ghost use Rattle.std.specs.Result.{result_ok};
 ghost use Rattle.clap.specs.Words.{found_of, rows_of};
-ghost use Rattle.chaosd_line.specs.Files.{bad_path};
-ghost use Rattle.chaosd_line.specs.Lines.{Answers, Reads, calling, delete, rename};
+ghost use Rattle.chaosd_line.specs.Lines.{Answers, Reads, call_options, delete, rename};
+ghost use Rattle.chaosd_line.specs.Places.{words_in};
+ghost use Rattle.chaosd_line.specs.Targets.{call_target, target_view};
 ghost use Rattle.chaosd_line.specs.Values.{given_if, seconds_of};
 
-use crate::bad_value::{BadValue, OTHER_FORM, PATH_FORM, PATH_ONCE_FORM};
-use crate::files::{are_paths, bad_path};
-use crate::form::{optional, optional_value, value, word, words_at};
+use crate::bad_value::BadValue;
+use crate::form::{optional_value, value, word};
 use crate::framings::framing_of;
 use crate::line::{Calling, Delete, Rename};
 use crate::line_problem::LineProblem;
-use crate::values::{Address, Flag, Host, SECONDS, Socket, WINDOW};
+use crate::places::{hosts_in, words_in};
+use crate::remote::{file_paths, new_path, old_path};
+use crate::target::{HostWord, call_target};
+use crate::values::{Flag, SECONDS, WINDOW};
 use crate::word::Word;
-use chaos_file::is_path;
 use clap::ArgMatches;
-use std::alloc::{AllocError, Global};
-
-/// What is wrong with the word at a place that names this host itself.
-pub(crate) fn own_host<'a>(matches: &ArgMatches<'a>, place: &'a str) -> BadValue<'a> {
-    BadValue::new(optional(matches, place).unwrap_or(""), place, OTHER_FORM)
-}
+use std::alloc::Global;
 
 /// The seconds of a timeout, if they are given.
 pub(crate) fn timeout_of<'a>(matches: &ArgMatches<'a>) -> Result<Option<u16>, BadValue<'a>>
@@ -34,10 +32,16 @@ pub(crate) fn timeout_of<'a>(matches: &ArgMatches<'a>) -> Result<Option<u16>, Ba
     }
 }
 
-/// What the callers of a server have in common.
-#[tactic(auto, unfolding(crate::specs::Lines::calling))]
-pub(crate) fn calling_of<'a>(matches: &ArgMatches<'a>) -> Result<Calling<'a>, BadValue<'a>>
-    ensures { Reads calling (rows_of (found_of matches.now)) result }
+/// What the callers of a server have in common. The server is named by these words.
+#[tactic(auto, unfolding(crate::specs::Lines::call_options))]
+pub(crate) fn calling_of<'a>(
+    matches: &ArgMatches<'a>,
+    words: &[&'a str],
+    place: HostWord,
+) -> Result<Calling<'a>, BadValue<'a>>
+    ensures { option_map (λ c. (call_options.view c, target_view c.target)) (result_ok result)
+        ≡ option_zip (call_options.value (rows_of (found_of matches.now)))
+        (call_target place (map (λ t. t.now) words.now)) }
 {
     let framing = framing_of(matches)?;
     let contact = word(matches, "contact", Word::Contact)?;
@@ -45,12 +49,7 @@ pub(crate) fn calling_of<'a>(matches: &ArgMatches<'a>) -> Result<Calling<'a>, Ba
     let window = value(matches, "window", &WINDOW)? as u16;
     let timeout = timeout_of(matches)?;
     let hears_anybody = value(matches, "any-source", &Flag)?;
-    let address = value(matches, "ADDRESS", &Address)?;
-    let socket = value(matches, "UDP", &Socket)?;
-    let server = value(matches, "SERVER", &Host)?;
-    if server.address == address {
-        return Err(own_host(matches, "SERVER"));
-    }
+    let hosts = hosts_in(matches)?;
     Ok(Calling {
         framing,
         contact,
@@ -58,32 +57,9 @@ pub(crate) fn calling_of<'a>(matches: &ArgMatches<'a>) -> Result<Calling<'a>, Ba
         window,
         timeout,
         hears_anybody,
-        address,
-        socket,
-        server,
+        hosts,
+        target: call_target(words, place)?,
     })
-}
-
-/// The words at a place, kept.
-pub(crate) fn kept<'a>(alloc: Global, words: &[&'a str]) -> Result<Vec<&'a str>, AllocError>
-    ensures { IfOk result (λ v. map (λ t. t.now) v.items ≡ map (λ t. t.now) words.now) }
-{
-    let mut kept = Vec::new(alloc);
-    kept.extend_from_slice(words)?;
-    Ok(kept)
-}
-
-/// What is wrong with words of which one is no path, or stands there twice.
-pub(crate) fn bad_paths<'a>(words: &[&'a str]) -> BadValue<'a>
-    ensures { result.text.now ≡ bad_path (map (λ t. t.now) words.now) }
-{
-    let text = bad_path(words);
-    let form = if is_path(text.as_bytes()) {
-        PATH_ONCE_FORM
-    } else {
-        PATH_FORM
-    };
-    BadValue::new(text, "PATH", form)
 }
 
 /// What the values of `delete` ask for.
@@ -94,15 +70,13 @@ pub(crate) fn delete_of<'a>(
 ) -> Result<Delete<'a>, LineProblem<'a>>
     ensures { Answers delete.view (delete.value (rows_of (found_of matches.now))) result }
 {
-    let calling = calling_of(matches)?;
-    let words = words_at(matches, "PATH");
-    if !are_paths(words) {
-        return Err(LineProblem::Bad(bad_paths(words)));
-    }
-    match kept(alloc, words) {
-        Ok(paths) => Ok(Delete { calling, paths }),
-        Err(_) => Err(LineProblem::NoMemory),
-    }
+    let words = words_in(matches);
+    Ok(Delete {
+        calling: calling_of(matches, words, HostWord::First)?,
+        is_quiet: value(matches, "quiet", &Flag)?,
+        is_verbose: value(matches, "verbose", &Flag)?,
+        paths: file_paths(alloc, words)?,
+    })
 }
 
 /// What the values of `rename` ask for.
@@ -110,9 +84,12 @@ pub(crate) fn delete_of<'a>(
 pub(crate) fn rename_of<'a>(matches: &ArgMatches<'a>) -> Result<Rename<'a>, BadValue<'a>>
     ensures { Reads rename (rows_of (found_of matches.now)) result }
 {
+    let words = words_in(matches);
     Ok(Rename {
-        calling: calling_of(matches)?,
-        from: word(matches, "OLD", Word::Path)?,
-        to: word(matches, "NEW", Word::Path)?,
+        calling: calling_of(matches, words, HostWord::First)?,
+        is_quiet: value(matches, "quiet", &Flag)?,
+        is_verbose: value(matches, "verbose", &Flag)?,
+        from: old_path(words)?,
+        to: new_path(words)?,
     })
 }

@@ -35,8 +35,12 @@ fn named<'a>(alloc: Global, sub: &Sub) -> Command<'a>
     ensures local { (out-Command result).has_globals ≡ false }
 {
     let command = Command::new(alloc, sub.name).about(sub.about);
-    match sub.example {
+    let command = match sub.example {
         Some(example) => command.after_help(example),
+        None => command,
+    };
+    match sub.usage {
+        Some(usage) => command.override_usage(usage),
         None => command,
     }
 }

@@ -1,29 +1,22 @@
 //! The values that clap gives for `get` and `put`, and the lines that they ask for.
 ghost use Rattle.std.specs.Prelude.{◌≡◌, map, option_map};
 ghost use Rattle.clap.specs.Words.{found_of, rows_of};
-ghost use Rattle.chaosd_line.specs.Files.{fits_output, is_folder};
-ghost use Rattle.chaosd_line.specs.Lines.{Answers, get, put};
+ghost use Rattle.chaosd_line.specs.Files.{file_view, fits_output};
+ghost use Rattle.chaosd_line.specs.Lines.{Answers, files_at, get, put};
 
-use crate::bad_value::{BadValue, ONE_PATH};
-use crate::calls::{bad_paths, calling_of, kept};
-use crate::files::are_paths;
-use crate::form::{optional, value, words_at};
+use crate::bad_value::{BadValue, NO_FOLDERS, ONE_PATH};
+use crate::calls::calling_of;
+use crate::form::{optional, value};
 use crate::line::{Copying, Get, Put};
 use crate::line_problem::LineProblem;
 use crate::paths::{file_under, own_files};
+use crate::places::words_in;
+use crate::remote::{file_paths, local_words, output_with, remote_words};
+use crate::target::HostWord;
 use crate::values::Flag;
 use clap::ArgMatches;
+use file_names::{PutFile, is_folder};
 use std::alloc::Global;
-
-/// Whether a name is a folder's: it ends with a slash.
-fn is_folder(name: &str) -> bool
-    ensures { result ≡ is_folder name.now }
-{
-    match name.as_bytes().last() {
-        Some(byte) => *byte == b'/',
-        None => false,
-    }
-}
 
 /// Whether what the files go to fits them: a local file is for one alone.
 fn fits_output(output: Option<&str>, words: &[&str]) -> bool
@@ -36,63 +29,76 @@ fn fits_output(output: Option<&str>, words: &[&str]) -> bool
     }
 }
 
+/// What is wrong with a local file's name that is given for more than one file.
+fn one_path<'a>(given: Option<&'a str>, output: Option<&'a str>) -> BadValue<'a> {
+    let place = if given.is_some() { "output" } else { "LOCAL" };
+    BadValue::misfit(output.unwrap_or(""), place, ONE_PATH)
+}
+
 /// What the values of `get` ask for.
-#[tactic(auto, unfolding(crate::specs::Lines::get, crate::specs::Lines::copying))]
+#[tactic(auto, unfolding(crate::specs::Lines::get))]
 pub(crate) fn get_of<'a>(
     alloc: Global,
     matches: &ArgMatches<'a>,
 ) -> Result<Get<'a>, LineProblem<'a>>
     ensures { Answers get.view (get.value (rows_of (found_of matches.now))) result }
 {
+    let words = words_in(matches);
+    let remote = remote_words(words);
+    let given = optional(matches, "output");
     let copying = Copying {
-        calling: calling_of(matches)?,
+        calling: calling_of(matches, remote, HostWord::First)?,
         is_text: value(matches, "text", &Flag)?,
         is_quiet: value(matches, "quiet", &Flag)?,
         is_verbose: value(matches, "verbose", &Flag)?,
     };
-    let output = optional(matches, "output");
-    let words = words_at(matches, "PATH");
-    if !are_paths(words) {
-        return Err(LineProblem::Bad(bad_paths(words)));
+    let output = output_with(given, words)?;
+    let paths = file_paths(alloc, remote)?;
+    if !fits_output(output, paths.as_slice()) {
+        return Err(LineProblem::Bad(one_path(given, output)));
     }
-    if !fits_output(output, words) {
-        let text = output.unwrap_or("");
-        return Err(LineProblem::Bad(BadValue::misfit(text, "output", ONE_PATH)));
-    }
-    match kept(alloc, words) {
-        Ok(paths) => Ok(Get {
-            copying,
-            output,
-            paths,
-        }),
-        Err(_) => Err(LineProblem::NoMemory),
+    Ok(Get {
+        copying,
+        output,
+        paths,
+    })
+}
+
+/// The local files that `put` puts, each with its path.
+fn files_at<'a>(
+    alloc: Global,
+    matches: &ArgMatches<'a>,
+) -> Result<Vec<PutFile<'a>>, LineProblem<'a>>
+    ensures { Answers (λ v. map file_view v.items) (files_at (rows_of (found_of matches.now))) result }
+{
+    let is_renaming = value(matches, "rename", &Flag)?;
+    let texts = local_words(words_in(matches))?;
+    match optional(matches, "as") {
+        Some(path) => file_under(alloc, texts, path),
+        None => own_files(alloc, texts, is_renaming),
     }
 }
 
 /// What the values of `put` ask for.
-#[tactic(auto, unfolding(crate::specs::Lines::put, crate::specs::Lines::copying))]
+#[tactic(auto, unfolding(crate::specs::Lines::put))]
 pub(crate) fn put_of<'a>(
     alloc: Global,
     matches: &ArgMatches<'a>,
 ) -> Result<Put<'a>, LineProblem<'a>>
     ensures { Answers put.view (put.value (rows_of (found_of matches.now))) result }
 {
+    if value(matches, "recursive", &Flag)? {
+        return Err(LineProblem::Bad(BadValue::impossible("recursive", NO_FOLDERS)));
+    }
+    let words = words_in(matches);
     let copying = Copying {
-        calling: calling_of(matches)?,
+        calling: calling_of(matches, words, HostWord::Last)?,
         is_text: value(matches, "text", &Flag)?,
         is_quiet: value(matches, "quiet", &Flag)?,
         is_verbose: value(matches, "verbose", &Flag)?,
     };
-    let is_renaming = value(matches, "rename", &Flag)?;
-    let texts = words_at(matches, "LOCAL");
-    match optional(matches, "as") {
-        Some(path) => Ok(Put {
-            copying,
-            files: file_under(alloc, texts, path)?,
-        }),
-        None => Ok(Put {
-            copying,
-            files: own_files(alloc, texts, is_renaming)?,
-        }),
-    }
+    Ok(Put {
+        copying,
+        files: files_at(alloc, matches)?,
+    })
 }

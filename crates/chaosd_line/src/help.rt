@@ -129,11 +129,15 @@ character set: newline, tab, backspace and page are
 8D, 89, 88 and 8C at the server. A file that would
 not translate back is refused";
 
-/// Help of `--quiet` of a copy.
-pub(crate) const QUIET: &str = "Report only files that could not be copied";
+/// Help of `--quiet` of the commands that call a server.
+pub(crate) const QUIET: &str = "Report only what failed";
 
-/// Help of `--verbose`.
+/// Help of `--verbose` of `ask`, `delete` and `rename`.
 pub(crate) const VERBOSE: &str = "\
+Report more, even if standard error is not a terminal";
+
+/// Help of `--verbose` of a copy.
+pub(crate) const COPY_VERBOSE: &str = "\
 Print a line with the size and the SHA-256 of each
 file, even if standard error is not a terminal";
 
@@ -149,29 +153,6 @@ pub(crate) const AS: &str = "Put the one local file under the name PATH";
 pub(crate) const RENAMING: &str = "\
 Rename a file whose name is no PATH: write _ for each
 byte that a PATH can't have, and for a leading dot";
-
-/// Help of `rename OLD`.
-pub(crate) const OLD: &str = "\
-File on the server, of 1 to 64 letters, digits, dots, hyphens and
-underscores, without a leading dot";
-
-/// Help of `rename NEW`.
-pub(crate) const NEW: &str = "New name of the file, in the same form, which no file has yet";
-
-/// Help of `SERVER`.
-pub(crate) const SERVER: &str = "Host to call, as ADDRESS=UDP in the forms above";
-
-/// Help of `PATH`.
-pub(crate) const PATH: &str = "\
-Files on the server, each of 1 to 64 letters, digits, dots,
-hyphens and underscores, without a leading dot";
-
-/// Help of `LOCAL`.
-pub(crate) const LOCAL: &str = "\
-Local files, each put under its last name if that is a PATH: 1 to
-64 letters, digits, dots, hyphens and underscores, without a
-leading dot. Other files are skipped and reported. A LOCAL of - is
-standard input, and needs --as";
 
 /// Help of `serve --turns`.
 pub(crate) const TURNS: &str = "\
@@ -199,30 +180,138 @@ pub(crate) const CONTACT: &str = "\
 Ask for the contact NAME: 1 to 64 printable ASCII
 characters without a space";
 
-/// Help of `ADDRESS`.
-pub(crate) const ADDRESS: &str = "\
-Chaosnet address of this host: 1 to 6 octal digits, from 1 to
-177777";
+/// Help of `--hosts`.
+pub(crate) const HOSTS: &str = "\
+Read addresses from the hosts table FILE; not in a
+line that begins with ADDRESS";
 
-/// Help of `UDP`.
-pub(crate) const UDP: &str = "\
-UDP address to receive at: a.b.c.d:port in decimal, with a port
-from 1 to 65535";
+/// Help of `put --recursive`, which only says that it can't be.
+pub(crate) const RECURSIVE: &str = "Put the files of folders: FILE has none";
 
-/// Help of `FOLDER`.
-pub(crate) const FOLDER: &str = "Folder to serve";
+/// The usage of `serve`.
+pub(crate) const SERVE_USAGE: &str = "\
+chaosd serve [OPTIONS] FOLDER
+       chaosd serve [OPTIONS] ADDRESS UDP FOLDER [PEER]...";
 
-/// Help of `ask TO`.
-pub(crate) const TO: &str = "Chaosnet address of the host to ask, in the form of ADDRESS";
+/// The usage of `ask`.
+pub(crate) const ASK_USAGE: &str = "\
+chaosd ask [OPTIONS] HOST
+       chaosd ask [OPTIONS] ADDRESS UDP TO [PEER]...";
 
-/// Help of `PEER`.
-pub(crate) const PEER: &str = "\
-Another host, as ADDRESS=UDP in the forms above: at most 32, each
-Chaosnet address once. *=UDP is a bridge to all other hosts";
+/// The usage of `get`.
+pub(crate) const GET_USAGE: &str = "\
+chaosd get [OPTIONS] HOST:PATH... [LOCAL]
+       chaosd get [OPTIONS] ADDRESS UDP SERVER PATH...";
+
+/// The usage of `put`.
+pub(crate) const PUT_USAGE: &str = "\
+chaosd put [OPTIONS] LOCAL... HOST:
+       chaosd put [OPTIONS] ADDRESS UDP SERVER LOCAL...";
+
+/// The usage of `delete`.
+pub(crate) const DELETE_USAGE: &str = "\
+chaosd delete [OPTIONS] HOST:PATH...
+       chaosd delete [OPTIONS] ADDRESS UDP SERVER PATH...";
+
+/// The usage of `rename`.
+pub(crate) const RENAME_USAGE: &str = "\
+chaosd rename [OPTIONS] HOST:OLD NEW
+       chaosd rename [OPTIONS] ADDRESS UDP SERVER OLD NEW";
+
+/// The rule that tells the two forms of a line apart, and the words of the long form that all
+/// commands have which use the network.
+macro_rules! words {
+    ($short:literal, $long:literal) => {
+        concat!(
+            $short,
+            "
+If the first word has digits alone, it is ADDRESS:
+ADDRESS  Chaosnet address of this host: 1 to 6 octal digits, from 1
+         to 177777
+UDP      UDP address to receive at: a.b.c.d:port in decimal, with a
+         port from 1 to 65535",
+            $long
+        )
+    };
+}
+
+/// Help of the words of `serve`.
+pub(crate) const SERVE_WORDS: &str = words!(
+    "\
+FOLDER   Folder to serve. The hosts table has the addresses of this
+         host and of its peers",
+    "
+FOLDER   Folder to serve
+PEER     Another host, as ADDRESS=UDP in the forms above: at most
+         32, each Chaosnet address once. *=UDP is a bridge to all
+         other hosts. ADDRESS=* is a host that is answered where
+         its last good datagram came from"
+);
+
+/// Help of the words of `ask`.
+pub(crate) const ASK_WORDS: &str = words!(
+    "\
+HOST     Host to ask, by its name in the hosts table",
+    "
+TO       Chaosnet address of the host to ask, in the form of
+         ADDRESS
+PEER     Another host, as ADDRESS=UDP in the forms above: at most
+         32, each Chaosnet address once. *=UDP is a bridge to all
+         other hosts"
+);
+
+/// Help of the words of `get`.
+pub(crate) const GET_WORDS: &str = words!(
+    "\
+HOST     Host to call, by its name in the hosts table
+PATH     File on the server, of 1 to 64 letters, digits, dots,
+         hyphens and underscores, without a leading dot
+LOCAL    Where the files go, as --output says; . is this folder",
+    "
+SERVER   Host to call, as ADDRESS=UDP in the forms above"
+);
+
+/// Help of the words of `put`.
+pub(crate) const PUT_WORDS: &str = words!(
+    "\
+LOCAL    Local file, put under its last name if that is a PATH:
+         1 to 64 letters, digits, dots, hyphens and underscores,
+         without a leading dot. Other files are skipped and
+         reported. A LOCAL of - is standard input, and needs --as
+HOST     Host to call, by its name in the hosts table",
+    "
+SERVER   Host to call, as ADDRESS=UDP in the forms above"
+);
+
+/// Help of the words of `delete`.
+pub(crate) const DELETE_WORDS: &str = words!(
+    "\
+HOST     Host to call, by its name in the hosts table
+PATH     File on the server, of 1 to 64 letters, digits, dots,
+         hyphens and underscores, without a leading dot",
+    "
+SERVER   Host to call, as ADDRESS=UDP in the forms above"
+);
+
+/// Help of the words of `rename`.
+pub(crate) const RENAME_WORDS: &str = words!(
+    "\
+HOST     Host to call, by its name in the hosts table
+OLD      File on the server, of 1 to 64 letters, digits, dots,
+         hyphens and underscores, without a leading dot
+NEW      New name of the file, in the same form, which no file
+         has yet",
+    "
+SERVER   Host to call, as ADDRESS=UDP in the forms above"
+);
 
 /// The end of the help of `serve`.
 pub(crate) const SERVE_EXAMPLE: &str = "\
 Examples:
+  chaosd serve files
+
+  Serve the folder `files` to the hosts of the hosts table.
+
   chaosd serve 401 127.0.0.1:9001 files 402=127.0.0.1:9002
 
   Host 401 serves the files of the folder `files`, and knows host 402.
@@ -233,35 +322,57 @@ Examples:
 
 /// The end of the help of `ask`.
 pub(crate) const ASK_EXAMPLE: &str = "\
-Example:
+Examples:
+  chaosd ask lispm < script
+
+  Send the commands of `script` to the host lispm of the hosts table.
+
   chaosd ask 402 127.0.0.1:9002 401 401=127.0.0.1:9001 < script
 
   Host 402 sends the commands of `script` to host 401.";
 
 /// The end of the help of `get`.
 pub(crate) const GET_EXAMPLE: &str = "\
-Example:
+Examples:
+  chaosd get lispm:A.LISP lispm:B.LISP src/
+
+  Copy two files of the host lispm into the folder src.
+
   chaosd get 402 127.0.0.1:9002 401=127.0.0.1:9001 A.LISP B.LISP
 
   Host 402 copies two files of host 401 into this folder.";
 
 /// The end of the help of `put`.
 pub(crate) const PUT_EXAMPLE: &str = "\
-Example:
+Examples:
+  chaosd put src/A.LISP src/B.LISP lispm:
+
+  Copy two files to the host lispm, as A.LISP and B.LISP.
+
   chaosd put 402 127.0.0.1:9002 401=127.0.0.1:9001 src/A.LISP src/B.LISP
 
-  Host 402 copies two files to host 401, as A.LISP and B.LISP.";
+  Host 402 copies two files to host 401, as A.LISP and B.LISP.
+
+A local file whose name has digits alone is written as ./402 if it is the first.";
 
 /// The end of the help of `delete`.
 pub(crate) const DELETE_EXAMPLE: &str = "\
-Example:
+Examples:
+  chaosd delete lispm:A.LISP lispm:B.LISP
+
+  Delete two files on the host lispm.
+
   chaosd delete 402 127.0.0.1:9002 401=127.0.0.1:9001 A.LISP B.LISP
 
   Host 402 deletes two files on host 401.";
 
 /// The end of the help of `rename`.
 pub(crate) const RENAME_EXAMPLE: &str = "\
-Example:
+Examples:
+  chaosd rename lispm:A.LISP B.LISP
+
+  Rename A.LISP on the host lispm to B.LISP.
+
   chaosd rename 402 127.0.0.1:9002 401=127.0.0.1:9001 A.LISP B.LISP
 
   Host 402 renames A.LISP on host 401 to B.LISP.";

@@ -1,12 +1,12 @@
 //! What a command line asks for.
-ghost use Rattle.std.specs.Prelude.{◌<◌, ◌≡◌, ◌≤◌, length, true};
+ghost use Rattle.std.specs.Prelude.{◌≡◌, ◌≤◌, length, true};
 ghost use Rattle.chaos_file.specs.declared.limits.TheConstants.{MAX_NAME};
 ghost use Rattle.chaosd_line.specs.Values.{is_contact};
 
+use crate::ends::{AskTarget, ServePlace, Target};
 use crate::framing::Framing;
-use chaos_link::{Carriage, Peer, Peers};
-use file_transfer::PutFile;
-use std::net::SocketAddrV4;
+use chaos_link::Carriage;
+use file_names::PutFile;
 
 /// What a command line asks for: a subcommand, with its values. Texts are lent from the words.
 #[derive(Drop)]
@@ -76,15 +76,12 @@ pub struct Serve<'a> {
     pub hears_only_peers: bool,
     /// Whether no file changes.
     pub is_read_only: bool,
-    /// Its Chaosnet address, which is not 0.
-    pub address: u16,
-    /// The UDP address that it receives at, whose port is not 0.
-    pub socket: SocketAddrV4,
+    /// The hosts table, where it is given.
+    pub hosts: Option<&'a str>,
     /// The folder whose files it serves, as it was given: nothing has been opened.
     pub folder: &'a str,
-    /// Where it sends to.
-    pub peers: Peers,
-    ghost named: { 0 < address },
+    /// Where it is, and which hosts it knows. It follows none if it hears only peers.
+    pub place: ServePlace,
 }
 
 /// Whom to ask, and as whom.
@@ -103,15 +100,14 @@ pub struct Ask<'a> {
     pub hears_anybody: bool,
     /// Whether the first reply that is an error ends the run.
     pub is_strict: bool,
-    /// The client's own Chaosnet address, which is not 0.
-    pub address: u16,
-    /// The UDP address that it receives at, whose port is not 0.
-    pub socket: SocketAddrV4,
-    /// The Chaosnet address of the host to ask, which is not 0 and not its own.
-    pub to: u16,
-    /// Where it sends to.
-    pub peers: Peers,
-    ghost named: { 0 < address },
+    /// Whether only mistakes are reported.
+    pub is_quiet: bool,
+    /// Whether more is reported, wherever standard error goes.
+    pub is_verbose: bool,
+    /// The hosts table, where it is given.
+    pub hosts: Option<&'a str>,
+    /// The host to ask.
+    pub target: AskTarget<'a>,
     ghost contact_fits: { is_contact contact.now ≡ true },
 }
 
@@ -131,13 +127,10 @@ pub struct Calling<'a> {
     pub timeout: Option<u16>,
     /// Whether datagrams from any UDP address are taken, and not from the server's alone.
     pub hears_anybody: bool,
-    /// Its own Chaosnet address, which is not 0.
-    pub address: u16,
-    /// The UDP address that it receives at, whose port is not 0.
-    pub socket: SocketAddrV4,
-    /// The server, whose Chaosnet address is another than its own.
-    pub server: Peer,
-    ghost named: { 0 < address },
+    /// The hosts table, where it is given.
+    pub hosts: Option<&'a str>,
+    /// The server.
+    pub target: Target<'a>,
     ghost login_fits: { length login.now ≤ MAX_NAME },
     ghost contact_fits: { is_contact contact.now ≡ true },
 }
@@ -161,7 +154,8 @@ pub struct Get<'a> {
     /// What it has in common with `put`.
     pub copying: Copying<'a>,
     /// The local file in place of one of the path's name, where there is one file; `-` is standard
-    /// output. Where it ends with a slash, it is the folder of the local files.
+    /// output. Where it ends with a slash, it is the folder of the local files. Without it the files
+    /// go into the current folder.
     pub output: Option<&'a str>,
     /// The server's files, each once: legal paths of FILE.
     pub paths: Vec<&'a str>,
@@ -183,6 +177,10 @@ pub struct Put<'a> {
 pub struct Delete<'a> {
     /// Who calls which server.
     pub calling: Calling<'a>,
+    /// Whether only mistakes are reported.
+    pub is_quiet: bool,
+    /// Whether more is reported, wherever standard error goes.
+    pub is_verbose: bool,
     /// The server's files, each once: legal paths of FILE.
     pub paths: Vec<&'a str>,
 }
@@ -192,6 +190,10 @@ pub struct Delete<'a> {
 pub struct Rename<'a> {
     /// Who calls which server.
     pub calling: Calling<'a>,
+    /// Whether only mistakes are reported.
+    pub is_quiet: bool,
+    /// Whether more is reported, wherever standard error goes.
+    pub is_verbose: bool,
     /// The server's file: a legal path of FILE.
     pub from: &'a str,
     /// Its new path, a legal one.

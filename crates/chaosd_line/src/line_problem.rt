@@ -2,6 +2,7 @@
 ghost use Rattle.std.specs.Prelude.{◌≡◌};
 
 use crate::bad_value::{BadValue, Clash};
+use std::alloc::AllocError;
 
 /// Why the values of a line can't be read.
 #[derive(Drop)]
@@ -21,5 +22,15 @@ impl<'a> From<BadValue<'a>> for LineProblem<'a> {
 
     fn from(bad: BadValue<'a>) -> LineProblem<'a> {
         LineProblem::Bad(bad)
+    }
+}
+
+impl<'a> From<AllocError> for LineProblem<'a> {
+    ghost use Rattle.chaosd_line.specs.declared.line_problem.LineProblem.TheVariants.{NoMemory};
+
+    ghost from_gives = { λ _ problem. problem ≡ NoMemory };
+
+    fn from(_error: AllocError) -> LineProblem<'a> {
+        LineProblem::NoMemory
     }
 }

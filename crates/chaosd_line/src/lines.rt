@@ -1,39 +1,75 @@
 //! The values that clap gives for a subcommand, and the line that they ask for.
+ghost use Rattle.std.specs.Prelude.{◌≡◌};
 ghost use Rattle.clap.specs.Words.{found_of, rows_of};
 ghost use Rattle.chaosd_line.specs.Lines.{Answers, Reads, ask, line_named, line_view, serve, show};
+ghost use Rattle.chaosd_line.specs.Targets.{follows, place_view};
 
-use crate::bad_value::BadValue;
-use crate::calls::{delete_of, own_host, rename_of, timeout_of};
+use crate::bad_value::{BadValue, UNKNOWN_PLACE};
+use crate::calls::{delete_of, rename_of, timeout_of};
 use crate::copies::{get_of, put_of};
+use crate::ends::ServePlace;
+use crate::followed::first_followed;
 use crate::form::{value, word};
 use crate::framings::framing_of;
 use crate::line::{Ask, Line, Serve, Show};
 use crate::line_problem::LineProblem;
-use crate::peers::peers_at;
-use crate::values::{Address, Flag, Level, RETRANSMIT, Socket, TURNS, Version, WINDOW};
+use crate::places::{hosts_in, words_from, words_in};
+use crate::target::{ask_target, serve_folder, serve_place};
+use crate::values::{Flag, Level, RETRANSMIT, TURNS, Version, WINDOW};
 use crate::word::Word;
 use clap::ArgMatches;
 use std::alloc::Global;
+
+/// Whether a server follows a host.
+fn follows(place: &ServePlace) -> bool
+    ensures { result ≡ follows (place_view place.now) }
+{
+    match place {
+        ServePlace::Addresses(ends) => !ends.followed.is_empty(),
+        ServePlace::Table => false,
+    }
+}
+
+/// What is wrong with a host that is followed by a server which hears only peers.
+fn unheard<'a>(words: &[&'a str]) -> BadValue<'a> {
+    let text = first_followed(words_from(words, 3)).unwrap_or("");
+    BadValue::misfit(text, "PEER", UNKNOWN_PLACE)
+}
 
 /// What the values of `serve` ask for.
 #[tactic(auto, unfolding(crate::specs::Lines::serve))]
 fn serve_of<'a>(matches: &ArgMatches<'a>) -> Result<Serve<'a>, BadValue<'a>>
     ensures { Reads serve (rows_of (found_of matches.now)) result }
 {
+    let words = words_in(matches);
+    let turns = value(matches, "turns", &TURNS)? as u32;
+    let framing = framing_of(matches)?;
+    let window = value(matches, "window", &WINDOW)? as u16;
+    let retransmit = value(matches, "retransmit", &RETRANSMIT)?;
+    let is_quiet = value(matches, "quiet", &Flag)?;
+    let log = value(matches, "log", &Level)?;
+    let is_timed = value(matches, "log-time", &Flag)?;
+    let is_read_only = value(matches, "read-only", &Flag)?;
+    let hears_only_peers = value(matches, "only-peers", &Flag)?;
+    let hosts = hosts_in(matches)?;
+    let place = serve_place(words)?;
+    let folder = serve_folder(words)?;
+    if hears_only_peers && follows(&place) {
+        return Err(unheard(words));
+    }
     Ok(Serve {
-        turns: value(matches, "turns", &TURNS)? as u32,
-        framing: framing_of(matches)?,
-        window: value(matches, "window", &WINDOW)? as u16,
-        retransmit: value(matches, "retransmit", &RETRANSMIT)?,
-        is_quiet: value(matches, "quiet", &Flag)?,
-        log: value(matches, "log", &Level)?,
-        is_timed: value(matches, "log-time", &Flag)?,
-        hears_only_peers: value(matches, "only-peers", &Flag)?,
-        is_read_only: value(matches, "read-only", &Flag)?,
-        address: value(matches, "ADDRESS", &Address)?,
-        socket: value(matches, "UDP", &Socket)?,
-        folder: word(matches, "FOLDER", Word::Any)?,
-        peers: peers_at(matches)?,
+        turns,
+        framing,
+        window,
+        retransmit,
+        is_quiet,
+        log,
+        is_timed,
+        hears_only_peers,
+        is_read_only,
+        hosts,
+        folder,
+        place,
     })
 }
 
@@ -42,30 +78,17 @@ fn serve_of<'a>(matches: &ArgMatches<'a>) -> Result<Serve<'a>, BadValue<'a>>
 fn ask_of<'a>(matches: &ArgMatches<'a>) -> Result<Ask<'a>, BadValue<'a>>
     ensures { Reads ask (rows_of (found_of matches.now)) result }
 {
-    let framing = framing_of(matches)?;
-    let contact = word(matches, "contact", Word::Contact)?;
-    let timeout = timeout_of(matches)?;
-    let retransmit = value(matches, "retransmit", &RETRANSMIT)?;
-    let hears_anybody = value(matches, "any-source", &Flag)?;
-    let is_strict = value(matches, "strict", &Flag)?;
-    let address = value(matches, "ADDRESS", &Address)?;
-    let socket = value(matches, "UDP", &Socket)?;
-    let to = value(matches, "TO", &Address)?;
-    if to == address {
-        return Err(own_host(matches, "TO"));
-    }
-    let peers = peers_at(matches)?;
     Ok(Ask {
-        framing,
-        contact,
-        timeout,
-        retransmit,
-        hears_anybody,
-        is_strict,
-        address,
-        socket,
-        to,
-        peers,
+        framing: framing_of(matches)?,
+        contact: word(matches, "contact", Word::Contact)?,
+        timeout: timeout_of(matches)?,
+        retransmit: value(matches, "retransmit", &RETRANSMIT)?,
+        hears_anybody: value(matches, "any-source", &Flag)?,
+        is_strict: value(matches, "strict", &Flag)?,
+        is_quiet: value(matches, "quiet", &Flag)?,
+        is_verbose: value(matches, "verbose", &Flag)?,
+        hosts: hosts_in(matches)?,
+        target: ask_target(words_in(matches))?,
     })
 }
 

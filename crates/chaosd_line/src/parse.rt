@@ -62,9 +62,16 @@ pub fn parse_line<'a, S: AsStr>(alloc: Global, words: &'a [S]) -> Result<Line<'a
     // A line that sends packets to other hosts has their framing. Without `--chudp` the framing is
     // the carriage, 1 or 2, and no bridge's address is given. With `--chudp` the carriage is 1, and
     // the framing has the bridge's address, if there is one.
-    // `serve` and `ask` have as peers at most 32 hosts in their order, no two with one address, and
-    // the UDP address of a bridge if one word among the hosts begins with a star. Two such words
-    // are no line.
+    // A line is in the long form if the first of its words that aren't options has digits alone. It
+    // then has this host's Chaosnet address and UDP address, and no hosts table is given. Any other
+    // line has the name of a host: the word of `ask`, what stands before the colon of the last word
+    // of `put`, or of the first word of another line. The other files of `get` and `delete` are of
+    // the same host. `serve` then has a folder alone, and the addresses are the table's.
+    // In the long form `serve` and `ask` have as peers at most 32 hosts in their order, no two with
+    // one address, and the UDP address of a bridge if one word among the hosts begins with a star.
+    // Two such words are no line. `serve` has the addresses that a star follows behind `=`: they
+    // are counted with the peers, and no address is in both. There are none if only peers are heard
+    // or the line is `ask`.
     // `serve` has its turns, its folder, how much it logs, whether it logs the time, whether it
     // hears only peers, and whether no file changes. `serve` and `ask` have the milliseconds after
     // which packets are retransmitted (20 to 60000). `serve` and what calls a server have the
@@ -74,6 +81,8 @@ pub fn parse_line<'a, S: AsStr>(alloc: Global, words: &'a [S]) -> Result<Line<'a
     // are given, and whether anybody is heard. What calls a server has the user's name.
     // `get` and `delete` have paths of FILE that differ, and `rename` has two. `put` has a path of
     // FILE for its one file, or files of which none is standard input and no two go under one path.
+    // `get` writes its files where `--output` says, or in the short form where a last word without
+    // a colon says; both are no line, and `.` is as if nothing was said.
     ensures line { IfOk result (λ line. asked_line (map S.text words.now) ≡ Some (line_view line)) }
 
     // The words are read only if nothing is wrong with them. They are refused if memory runs out,

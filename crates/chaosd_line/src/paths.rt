@@ -9,7 +9,7 @@ use crate::bad_value::{BadValue, Clash, LOCALS_FORM, ONE_LOCAL, PATH_FORM};
 use crate::files::last_name;
 use crate::line_problem::LineProblem;
 use chaos_file::{FilePath, MAX_PATH, is_path, is_path_byte};
-use file_transfer::{PutFile, STREAM};
+use file_names::{PutFile, STREAM};
 use std::alloc::Global;
 
 /// A byte of a path, in place of this one.

@@ -1,16 +1,15 @@
-//! The peers of a line.
-ghost use Rattle.std.specs.Prelude.{◌≡◌, ◌≤◌, None, OnErr, OnOk, Some, codes, length, map};
+//! The peers of a line, added one after another.
+ghost use Rattle.std.specs.Prelude.{◌≡◌, ◌≤◌, None, OnErr, OnOk, Some, length};
 ghost use Rattle.std.specs.Option.{option_and_then};
-ghost use Rattle.std.specs.Result.{result_ok};
-ghost use Rattle.clap.specs.Words.{found_of, rows_of};
 ghost use Rattle.chaos_link.specs.declared.limits.TheConstants.{MAX_PEERS};
-ghost use Rattle.chaosd_line.specs.Values.{bridge_of, names_bridge, peer_of, peers_of, with_bridge, with_host, with_peer, words_of};
+ghost use Rattle.chaosd_hosts.specs.Addresses.{bridge_of, peer_of};
+ghost use Rattle.chaosd_line.specs.Values.{names_bridge, with_bridge, with_host, with_peer};
 
 use crate::bad_value::{BRIDGE_ONCE_FORM, BadValue, ENTRY_FORM, ONCE_FORM, PEERS_FORM};
-use crate::form::{Form, words_at};
-use crate::values::{Host, bridge_of};
+use crate::form::Form;
+use crate::values::Host;
 use chaos_link::{PeerFault, Peers};
-use clap::ArgMatches;
+use chaosd_hosts::bridge_of;
 
 /// The form of a peer that a table refuses.
 fn form_of(fault: PeerFault) -> &'static str {
@@ -21,7 +20,7 @@ fn form_of(fault: PeerFault) -> &'static str {
 }
 
 /// The word that is no peer to be added.
-fn bad_peer<'a>(text: &'a str, form: &'a str) -> BadValue<'a> {
+pub(crate) fn bad_peer<'a>(text: &'a str, form: &'a str) -> BadValue<'a> {
     BadValue::new(text, "PEER", form)
 }
 
@@ -74,7 +73,7 @@ fn names_bridge(bytes: &[u8]) -> bool
 
 /// Adds the host or the bridge that the text writes.
 #[tactic(auto, unfolding(crate::specs::Values::with_peer))]
-fn add_peer<'a>(peers: &mut Peers, text: &'a str) -> Result<(), BadValue<'a>>
+pub(crate) fn add_peer<'a>(peers: &mut Peers, text: &'a str) -> Result<(), BadValue<'a>>
     requires { length peers.old.hosts ≤ MAX_PEERS }
     ensures ok { OnOk result (with_peer peers.old text.now ≡ Some peers.new) }
     ensures err { OnErr result (with_peer peers.old text.now ≡ None) }
@@ -85,27 +84,4 @@ fn add_peer<'a>(peers: &mut Peers, text: &'a str) -> Result<(), BadValue<'a>>
     } else {
         add_host(peers, text)
     }
-}
-
-/// The peers that the texts write: the hosts in their order, and the bridge, where a text writes
-/// one.
-///
-/// # Errors
-/// The first word that is no peer, or one too many, or has the address of an earlier one, or is a
-/// second bridge.
-fn peers_of<'a>(texts: &[&'a str]) -> Result<Peers, BadValue<'a>>
-    ensures { result_ok result ≡ peers_of (map (λ t. t.now) texts.now) }
-{
-    let mut peers = Peers::new();
-    for text in texts {
-        add_peer(&mut peers, text)?;
-    }
-    Ok(peers)
-}
-
-/// The peers of a line, of which there may be none.
-pub(crate) fn peers_at<'a>(matches: &ArgMatches<'a>) -> Result<Peers, BadValue<'a>>
-    ensures { result_ok result ≡ peers_of (words_of (codes "PEER") (rows_of (found_of matches.now))) }
-{
-    peers_of(words_at(matches, "PEER"))
 }

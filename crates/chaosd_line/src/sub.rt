@@ -41,6 +41,8 @@ pub(crate) struct Sub {
     pub(crate) about: &'static str,
     /// What its own help ends with.
     pub(crate) example: Option<&'static str>,
+    /// Its usage, where clap's own doesn't say enough.
+    pub(crate) usage: Option<&'static str>,
     /// Its words.
     pub(crate) words: &'static [Argument<'static>],
 }
@@ -57,17 +59,15 @@ const CONTACT: Argument<'static> = Argument(
     help::CONTACT,
 );
 
-const ADDRESS: Argument<'static> = Argument("ADDRESS", Arity::Needed, help::ADDRESS);
-
-const UDP: Argument<'static> = Argument("UDP", Arity::Needed, help::UDP);
-
-const PEER: Argument<'static> = Argument("PEER", Arity::Any, help::PEER);
-
 const LOGIN: Argument<'static> = Argument("login", Arity::Default("NAME", "CHAOSD"), help::LOGIN);
 
 const WINDOW: Argument<'static> = Argument("window", Arity::Default("N", "64"), help::WINDOW);
 
-const TIMEOUT: Argument<'static> = Argument("timeout", Arity::Optional("SECONDS"), help::TIMEOUT);
+const TIMEOUT: Argument<'static> = Argument(
+    "timeout",
+    Arity::ShortOptional('t', "SECONDS"),
+    help::TIMEOUT,
+);
 
 const RETRANSMIT: Argument<'static> = Argument(
     "retransmit",
@@ -79,25 +79,37 @@ const ANY_SOURCE: Argument<'static> = Argument("any-source", Arity::Flag, help::
 
 const TEXT: Argument<'static> = Argument("text", Arity::Flag, help::TEXT);
 
-const QUIET: Argument<'static> = Argument("quiet", Arity::Flag, help::QUIET);
+const QUIET: Argument<'static> = Argument("quiet", Arity::ShortFlag('q'), help::QUIET);
 
-const VERBOSE: Argument<'static> = Argument("verbose", Arity::Flag, help::VERBOSE);
+const VERBOSE: Argument<'static> = Argument("verbose", Arity::ShortFlag('v'), help::VERBOSE);
 
-const OUTPUT: Argument<'static> = Argument("output", Arity::Optional("LOCAL"), help::OUTPUT);
+const COPY_VERBOSE: Argument<'static> = Argument(
+    "verbose",
+    Arity::ShortFlag('v'),
+    help::COPY_VERBOSE,
+);
+
+const OUTPUT: Argument<'static> = Argument(
+    "output",
+    Arity::ShortOptional('o', "LOCAL"),
+    help::OUTPUT,
+);
+
+const RECURSIVE: Argument<'static> = Argument("recursive", Arity::HiddenFlag('r'), help::RECURSIVE);
+
+const HOSTS: Argument<'static> = Argument("hosts", Arity::Optional("FILE"), help::HOSTS);
 
 const RENAMING: Argument<'static> = Argument("rename", Arity::Flag, help::RENAMING);
 
 const AS: Argument<'static> = Argument("as", Arity::Optional("PATH"), help::AS);
 
-const SERVER: Argument<'static> = Argument("SERVER", Arity::Needed, help::SERVER);
-
-/// The words of a subcommand that calls a server: the options of all, its own options, the
-/// addresses, and its own words behind them.
+/// The words of a subcommand that calls a server: the options of all, its own options, and the
+/// words that aren't options.
 macro_rules! call_words {
-    ([$($option:expr),*], $($word:expr),*) => {
+    ($verbose:expr, [$($option:expr),*], $words:expr) => {
         &[
-            CARRIAGE, CHUDP, BRIDGE, CONTACT, LOGIN, WINDOW, TIMEOUT, ANY_SOURCE, $($option,)*
-            ADDRESS, UDP, SERVER, $($word),*
+            CARRIAGE, CHUDP, BRIDGE, CONTACT, LOGIN, WINDOW, TIMEOUT, ANY_SOURCE, QUIET, $verbose,
+            $($option,)* HOSTS, Argument("WORD", Arity::Several, $words),
         ]
     };
 }
@@ -107,6 +119,7 @@ static SHOW: Sub = Sub {
     shown: "chaosd show",
     about: help::SHOW,
     example: None,
+    usage: None,
     words: &[
         Argument("file", Arity::Flag, help::SHOW_FILE),
         Argument("chudp", Arity::Flag, help::SHOW_CHUDP),
@@ -118,6 +131,7 @@ static LAB: Sub = Sub {
     shown: "chaosd lab",
     about: help::LAB,
     example: None,
+    usage: None,
     words: &[],
 };
 
@@ -126,6 +140,7 @@ static FILELAB: Sub = Sub {
     shown: "chaosd filelab",
     about: help::FILELAB,
     example: None,
+    usage: None,
     words: &[],
 };
 
@@ -134,6 +149,7 @@ static LOOP: Sub = Sub {
     shown: "chaosd loop",
     about: help::LOOP,
     example: None,
+    usage: None,
     words: &[CARRIAGE],
 };
 
@@ -142,6 +158,7 @@ static SERVE: Sub = Sub {
     shown: "chaosd serve",
     about: help::SERVE,
     example: Some(help::SERVE_EXAMPLE),
+    usage: Some(help::SERVE_USAGE),
     words: &[
         Argument("turns", Arity::Default("N", "1000000000"), help::TURNS),
         CARRIAGE,
@@ -149,15 +166,13 @@ static SERVE: Sub = Sub {
         BRIDGE,
         Argument("window", Arity::Default("N", "13"), help::SERVE_WINDOW),
         RETRANSMIT,
-        Argument("quiet", Arity::Flag, help::SERVE_QUIET),
+        Argument("quiet", Arity::ShortFlag('q'), help::SERVE_QUIET),
         Argument("log", Arity::Default("LEVEL", "normal"), help::LOG),
         Argument("log-time", Arity::Flag, help::LOG_TIME),
         Argument("only-peers", Arity::Flag, help::ONLY_PEERS),
         Argument("read-only", Arity::Flag, help::READ_ONLY),
-        ADDRESS,
-        UDP,
-        Argument("FOLDER", Arity::Needed, help::FOLDER),
-        PEER,
+        HOSTS,
+        Argument("WORD", Arity::Several, help::SERVE_WORDS),
     ],
 };
 
@@ -166,19 +181,24 @@ static ASK: Sub = Sub {
     shown: "chaosd ask",
     about: help::ASK,
     example: Some(help::ASK_EXAMPLE),
+    usage: Some(help::ASK_USAGE),
     words: &[
         CARRIAGE,
         CHUDP,
         BRIDGE,
         CONTACT,
-        Argument("timeout", Arity::Optional("SECONDS"), help::ASK_TIMEOUT),
+        Argument(
+            "timeout",
+            Arity::ShortOptional('t', "SECONDS"),
+            help::ASK_TIMEOUT,
+        ),
         RETRANSMIT,
         ANY_SOURCE,
         Argument("strict", Arity::Flag, help::STRICT),
-        ADDRESS,
-        UDP,
-        Argument("TO", Arity::Needed, help::TO),
-        PEER,
+        QUIET,
+        VERBOSE,
+        HOSTS,
+        Argument("WORD", Arity::Several, help::ASK_WORDS),
     ],
 };
 
@@ -187,10 +207,8 @@ static GET: Sub = Sub {
     shown: "chaosd get",
     about: help::GET,
     example: Some(help::GET_EXAMPLE),
-    words: call_words!(
-        [TEXT, QUIET, VERBOSE, OUTPUT],
-        Argument("PATH", Arity::Several, help::PATH)
-    ),
+    usage: Some(help::GET_USAGE),
+    words: call_words!(COPY_VERBOSE, [TEXT, OUTPUT], help::GET_WORDS),
 };
 
 static PUT: Sub = Sub {
@@ -198,9 +216,11 @@ static PUT: Sub = Sub {
     shown: "chaosd put",
     about: help::PUT,
     example: Some(help::PUT_EXAMPLE),
+    usage: Some(help::PUT_USAGE),
     words: call_words!(
-        [TEXT, QUIET, VERBOSE, RENAMING, AS],
-        Argument("LOCAL", Arity::Several, help::LOCAL)
+        COPY_VERBOSE,
+        [TEXT, RENAMING, AS, RECURSIVE],
+        help::PUT_WORDS
     ),
 };
 
@@ -209,7 +229,8 @@ static DELETE: Sub = Sub {
     shown: "chaosd delete",
     about: help::DELETE,
     example: Some(help::DELETE_EXAMPLE),
-    words: call_words!([], Argument("PATH", Arity::Several, help::PATH)),
+    usage: Some(help::DELETE_USAGE),
+    words: call_words!(VERBOSE, [], help::DELETE_WORDS),
 };
 
 static RENAME: Sub = Sub {
@@ -217,11 +238,8 @@ static RENAME: Sub = Sub {
     shown: "chaosd rename",
     about: help::RENAME,
     example: Some(help::RENAME_EXAMPLE),
-    words: call_words!(
-        [],
-        Argument("OLD", Arity::Needed, help::OLD),
-        Argument("NEW", Arity::Needed, help::NEW)
-    ),
+    usage: Some(help::RENAME_USAGE),
+    words: call_words!(VERBOSE, [], help::RENAME_WORDS),
 };
 
 /// The names of the subcommands, in the order of the help.

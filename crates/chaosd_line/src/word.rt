@@ -4,9 +4,10 @@ ghost use Rattle.std.specs.List.{list_all};
 ghost use Rattle.std.specs.Char.{is_ascii_graphic};
 ghost use Rattle.chaosd_line.specs.Values.{is_contact, takes};
 
-use crate::bad_value::PATH_FORM;
+use crate::bad_value::{HOST_FORM, PATH_FORM};
 use chaos_file::{is_path, is_user};
 use chaos_host::MAX_CONTACT;
+use chaosd_hosts::is_host_name;
 
 /// Which words stand for themselves at a place.
 #[derive(Clone, Copy)]
@@ -19,6 +20,8 @@ pub(crate) enum Word {
     Login,
     /// A path of FILE.
     Path,
+    /// A name of a host.
+    HostName,
 }
 
 impl Word {
@@ -29,6 +32,7 @@ impl Word {
             Word::Contact => "1 to 64 printable ASCII characters, without a space",
             Word::Login => "1 to 16 letters and digits",
             Word::Path => PATH_FORM,
+            Word::HostName => HOST_FORM,
         }
     }
 
@@ -41,6 +45,7 @@ impl Word {
             Word::Contact => is_contact(word),
             Word::Login => is_user(word),
             Word::Path => is_path(word),
+            Word::HostName => is_host_name(word),
         }
     }
 }

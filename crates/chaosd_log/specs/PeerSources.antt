@@ -1,13 +1,16 @@
 -- What a server's log knows of hosts.
-use Rattle.std.specs.Prelude.{◌≡◌, ◌≢◌, ◌⊎◌, ◌==◌, ◌∷◌, [], ℕ, suc, Bool, true, false, if◌then◌else◌, List, Option, Some, None, option_map, slice_index_or, slice_set}
+use Rattle.std.specs.Prelude.{◌≡◌, ◌≢◌, ◌⊎◌, ◌==◌, ◌∷◌, [], ℕ, suc, Bool, true, false, if◌then◌else◌, List, Option, Some, None, map, option_map, slice_get, slice_index_or, slice_set}
+use Rattle.std.specs.List.{range_with_len}
 use Rattle.std.specs.declared.net.socket_addr.SocketAddrV4.{SocketAddrV4}
 use Rattle.chaos_link.specs.declared.peers.Peer.{Peer}
 use Rattle.chaos_link.specs.Peers.{PeersView, socket_of}
+use Rattle.chaos_link.specs.declared.limits.TheConstants.{MAX_PEERS}
 use Rattle.chaosd_log.specs.declared.peer_sources.SourceReport.{SourceReport}
 use Rattle.chaosd_log.specs.declared.peer_sources.SourceReport.TheVariants.{AsKnown, Stranger, Elsewhere}
 
--- the peers and the bridge; the UDP address that each peer was heard from last, by its place; the host that was heard last of
--- those that are none; and whether something was reported of where a Chaosnet address asks from
+-- the peers and the bridge, as they were when the link was asked last; the UDP address that each peer was heard from last, by its
+-- place; the host that was heard last of those that are none; and whether something was reported of where a Chaosnet address
+-- asks from
 pub record PeerSourcesView : Type 0 where
   pub peers : PeersView
   pub heard : List (Option SocketAddrV4)
@@ -67,3 +70,17 @@ source_in None address sources = socket_at address sources.stranger
 
 abbrev pub source_at : ℕ → PeerSourcesView → Option SocketAddrV4
 source_at address sources = source_in (place_of address sources.peers.hosts) address sources
+
+-- the UDP address that a peer was heard from last, where there is a peer
+abbrev pub source_of_peer : Option Peer → PeerSourcesView → Option SocketAddrV4
+source_of_peer (Some peer) sources = source_at peer.address sources
+source_of_peer None sources = None
+
+-- where each of these peers was heard last, by its place among them
+abbrev pub heard_by_place : List Peer → PeerSourcesView → List (Option SocketAddrV4)
+heard_by_place peers sources =
+    map (λ place. source_of_peer (slice_get peers place) sources) (range_with_len 0 MAX_PEERS)
+
+-- the peers are these now: each was heard last where it was heard before
+abbrev pub renewed : PeersView → PeerSourcesView → PeerSourcesView
+renewed peers sources = record sources { peers = peers; heard = heard_by_place peers.hosts sources }

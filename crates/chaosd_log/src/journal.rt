@@ -1,11 +1,11 @@
 //! Where the lines of a log are written.
 use crate::level::{Level, Topic};
 use crate::limiter::Limiter;
+use crate::lines::LogLines;
 use crate::peer_sources::PeerSources;
 use crate::warning::{Named, Warning, bridge_warning_of, warning_of};
 use chaos_file::PrintedName;
-use chaos_link::Peers;
-use jiff::Timestamp;
+use chaos_link::{Peer, Peers};
 use std::fmt::Display;
 use std::io;
 use std::net::SocketAddrV4;
@@ -24,7 +24,7 @@ use std::time::Clock;
 pub struct Journal<'a, R> {
     rt: &'a R,
     level: Level,
-    is_timed: bool,
+    lines: LogLines<'a, R>,
     pub(crate) sources: PeerSources,
     pub(crate) limiter: Limiter,
     /// The second of the clock that was read last.
@@ -39,22 +39,12 @@ impl<'a, R: Clock + Eprint> Journal<'a, R> {
         Journal {
             rt,
             level,
-            is_timed,
+            lines: LogLines::new(rt, is_timed),
             sources,
             limiter: Limiter::new(),
             second: 0,
             is_clock_missed: false,
         }
-    }
-
-    /// The time now, where it is asked for and can be read.
-    fn time(&self) -> Option<Timestamp> {
-        if !self.is_timed {
-            return None;
-        }
-        let since = self.rt.since_1970().ok()?;
-        let seconds = i64::try_from(since.as_secs()).ok()?;
-        Timestamp::from_second(seconds).ok()
     }
 
     /// The second of the clock; where the clock can't be read, the second that was read last.
@@ -70,7 +60,7 @@ impl<'a, R: Clock + Eprint> Journal<'a, R> {
     fn miss_clock(&mut self, fault: &io::Error) {
         if !self.is_clock_missed {
             self.is_clock_missed = true;
-            self.write(&format_args!(
+            self.lines.write(&format_args!(
                 "can't read the clock, so all lines count as lines of one second: {fault}"
             ));
         }
@@ -86,7 +76,7 @@ impl<'a, R: Clock + Eprint> Journal<'a, R> {
         self.report_due(topic, now);
         let is_written = self.limiter.take_line(topic, now);
         if is_written {
-            self.write(line);
+            self.lines.write(line);
         }
         is_written
     }
@@ -95,7 +85,8 @@ impl<'a, R: Clock + Eprint> Journal<'a, R> {
     fn report(&mut self, topic: Topic) {
         let count = self.limiter.take_left_out(topic);
         if count > 0 {
-            self.write(&format_args!("{count} more like this, about {topic}"));
+            self.lines
+                .write(&format_args!("{count} more like this, about {topic}"));
         }
     }
 
@@ -106,20 +97,13 @@ impl<'a, R: Clock + Eprint> Journal<'a, R> {
         }
     }
 
-    fn write<D: Display>(&self, line: &D) {
-        let _ = match self.time() {
-            Some(time) => eprintln!(self.rt; "{time} chaosd: {line}"),
-            None => eprintln!(self.rt; "chaosd: {line}"),
-        };
-    }
-
     /// Logs that the server begins, which hosts it answers, and what is wrong with these peers.
     pub fn begin(&mut self, address: u16, socket: SocketAddrV4, folder: &str, peers: &Peers) {
         let named = Named(peers);
         let folder = PrintedName(folder);
         let _ = self.log(
             Topic::Service,
-            &format_args!("host {address:06o} serves {folder} at {socket}{named}"),
+            &format_args!("host {address:o} serves {folder} at {socket}{named}"),
         );
         if peers.hosts().is_empty() && peers.bridge().is_none() {
             let _ = self.log(Topic::Fault, &Warning::NoPeers);
@@ -136,6 +120,28 @@ impl<'a, R: Clock + Eprint> Journal<'a, R> {
         }
     }
 
+    /// Keeps the peers that the link has now, and logs each host that is answered elsewhere than
+    /// before. Such a host may be reported again if it asks from yet another place.
+    pub(crate) fn renew(&mut self, peers: &Peers) {
+        if is_same(self.sources.peers(), peers) {
+            return;
+        }
+        for peer in peers.hosts() {
+            if !self.sources.is_answered_at(peer) {
+                let Peer { address, socket } = peer;
+                let _ = self.log(
+                    Topic::Connection,
+                    &format_args!("host {address:o} is at {socket} now"),
+                );
+                self.sources.forget_reported(*address);
+            }
+        }
+        // A copy of peers takes no memory, and so doesn't fail.
+        if let Ok(peers) = peers.clone() {
+            self.sources.renew(peers);
+        }
+    }
+
     /// Whether this host is answered: a peer has this Chaosnet address, or there is a bridge.
     pub(crate) fn is_peer(&self, address: u16) -> bool {
         self.sources.peers().find(address).is_some()
@@ -144,8 +150,8 @@ impl<'a, R: Clock + Eprint> Journal<'a, R> {
     /// Logs a line about this host, with the UDP address where it was heard last.
     pub(crate) fn log_of<D: Display>(&mut self, host: u16, topic: Topic, line: &D) {
         let _ = match self.sources.source_of(host) {
-            Some(from) => self.log(topic, &format_args!("host {host:06o} at {from} {line}")),
-            None => self.log(topic, &format_args!("host {host:06o} {line}")),
+            Some(from) => self.log(topic, &format_args!("host {host:o} at {from} {line}")),
+            None => self.log(topic, &format_args!("host {host:o} {line}")),
         };
     }
 
@@ -156,7 +162,12 @@ impl<'a, R: Clock + Eprint> Journal<'a, R> {
             self.report(*topic);
         }
         if self.level.has(topic) {
-            self.write(line);
+            self.lines.write(line);
         }
     }
+}
+
+/// Whether these are the same peers in the same places, and the same bridge.
+fn is_same(peers: &Peers, others: &Peers) -> bool {
+    peers.bridge() == others.bridge() && peers.hosts() == others.hosts()
 }

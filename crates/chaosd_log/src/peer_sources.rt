@@ -1,7 +1,7 @@
 //! What a server's log knows of hosts.
 ghost use Rattle.std.specs.Prelude.{◌≡◌, ◌≤◌, length};
 ghost use Rattle.chaos_link.specs.declared.limits.TheConstants.{MAX_PEERS};
-ghost use Rattle.chaosd_log.specs.PeerSources.{AsksAs, IsReportOf, heard_at, known_at, place_of, source_at, unreported_of, with_asked};
+ghost use Rattle.chaosd_log.specs.PeerSources.{AsksAs, IsReportOf, heard_at, heard_by_place, known_at, place_of, renewed, source_at, unreported_of, with_asked};
 
 use crate::place::place_of;
 use chaos_link::{MAX_PEERS, Peer, Peers};
@@ -22,8 +22,8 @@ pub enum SourceReport {
     Elsewhere(SocketAddrV4),
 }
 
-/// What a server's log knows of hosts: its peers and the bridge, from which UDP address each was
-/// heard last, and what was reported.
+/// What a server's log knows of hosts: the peers and the bridge, as the link had them when it was
+/// asked last, from which UDP address each was heard last, and what was reported.
 #[derive(Drop)]
 pub struct PeerSources {
     peers: Peers,
@@ -54,7 +54,8 @@ fn report_of(known: Option<SocketAddrV4>, from: SocketAddrV4) -> SourceReport
 }
 
 impl PeerSources {
-    ghost use Rattle.std.specs.Prelude.{false, None, replicate};
+    ghost use Rattle.std.specs.Prelude.{◌↔◌, false, ℕ, IsTrue, None, replicate, Some};
+    ghost use Rattle.chaos_link.specs.Peers.{IsKnown};
 
     /// The sources of a server that has heard nobody.
     pub fn new(peers: Peers) -> Self
@@ -77,10 +78,46 @@ impl PeerSources {
 
     /// The peers, lent.
     pub fn peers(&self) -> &Peers
-        // The peers are those that were given at first.
+        // The peers are those that were given last, at first or by a renewal.
         ensures { result.now ≡ self.now.peers }
     {
         &self.peers
+    }
+
+    /// Whether this peer's host is answered at this peer's UDP address.
+    pub fn is_answered_at(&self, peer: &Peer) -> bool
+        // The result is true exactly where the host is answered there, as a peer or over the bridge.
+        ensures { IsTrue result ↔ (known_at peer.now.address self.now ≡ Some peer.now.socket) }
+    {
+        self.peers.find(peer.address) == Some(peer.socket)
+    }
+
+    /// The peers are these now.
+    pub fn renew(&mut self, peers: Peers)
+        // The peers are these, in their places. What was reported stays, and so does the last host
+        // that was no peer.
+        ensures renewed { self.new ≡ renewed peers self.old }
+        // Each peer was heard last where its host was heard before, whatever place the peer has now,
+        // and also where the host was no peer.
+        ensures sources { (address : ℕ) → IsKnown address peers.hosts
+            → source_at address self.new ≡ source_at address self.old }
+    {
+        self.heard = self.heard_by_place(peers.hosts());
+        self.peers = peers;
+    }
+
+    /// Where each of these peers was heard last, by its place.
+    fn heard_by_place(&self, peers: &[Peer]) -> [Option<SocketAddrV4>; MAX_PEERS]
+        ensures { result ≡ heard_by_place peers.now self.now }
+    {
+        let mut heard = [None; MAX_PEERS];
+        for place in 0..MAX_PEERS {
+            heard[place] = match peers.get(place) {
+                Some(peer) => self.source_of(peer.address),
+                None => None,
+            };
+        }
+        heard
     }
 
     /// A datagram of this host came from this UDP address. The result says what is to be reported

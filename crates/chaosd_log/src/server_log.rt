@@ -32,7 +32,7 @@ impl<R: Clock + Eprint> Log for Journal<'_, R> {
         if self.is_peer(address) {
             let _ = self.log(
                 Topic::Connection,
-                &format_args!("host {address:06o} opens connection {index:06o}"),
+                &format_args!("host {address:o} opens connection {index:06o}"),
             );
         }
     }
@@ -48,7 +48,7 @@ impl<R: Clock + Eprint> Log for Journal<'_, R> {
         let _ = self.log(
             Topic::Connection,
             &format_args!(
-                "connection {index:06o} of host {address:06o} ends: {name}, {commands} command{plural}, {why}"
+                "connection {index:06o} of host {address:o} ends: {name}, {commands} command{plural}, {why}"
             ),
         );
     }
@@ -72,13 +72,16 @@ impl<R: Clock + Eprint> Log for Journal<'_, R> {
     }
 }
 
-/// A line for a host that asks from where it isn't known, and for a call of the socket that failed.
+/// A line for a host that asks from where it isn't known, for a host that is answered elsewhere than
+/// before, and for a call of the socket that failed. The peers are those that the link has at each
+/// call.
 impl<R: Clock + Eprint, L: Reports> LinkLog<L> for Journal<'_, R> {
     ghost reads = { L.reported };
 
     /// What is wrong with where the host asks from is logged once. If the line was left out, the
     /// next datagram from there is logged in its place.
     fn heard(&mut self, link: &L, address: u16) {
+        self.renew(link.peers());
         let Some(from) = link.report().source else {
             return;
         };
@@ -86,12 +89,12 @@ impl<R: Clock + Eprint, L: Reports> LinkLog<L> for Journal<'_, R> {
             SourceReport::AsKnown => true,
             SourceReport::Stranger => self.log(
                 Topic::Stranger,
-                &format_args!("host {address:06o} asks from {from} and is no PEER"),
+                &format_args!("host {address:o} asks from {from} and is no PEER"),
             ),
             SourceReport::Elsewhere(known) => self.log(
                 Topic::Stranger,
                 &format_args!(
-                    "host {address:06o} asks from {from}, and is answered at {known}, where its PEER is"
+                    "host {address:o} asks from {from}, and is answered at {known}, where its PEER is"
                 ),
             ),
         };
@@ -102,6 +105,7 @@ impl<R: Clock + Eprint, L: Reports> LinkLog<L> for Journal<'_, R> {
 
     /// What was left out in a second that is over is reported too.
     fn turned(&mut self, link: &L) {
+        self.renew(link.peers());
         if let Some(fault) = link.report().fault {
             let _ = self.log(Topic::Socket, &fault);
         }

@@ -18,7 +18,7 @@ use crate::put::chunk_count;
 use crate::row::Row;
 use crate::said::{said_to, write_wanted};
 use crate::talk::Talk;
-use crate::window::{Flight, ask_one, next_reply, refusal, settled};
+use crate::window::{Flight, ask_one, next_reply, refusal, report_bound, settled};
 use chaos_file::{Command, MAX_CHUNK, Reply, Said};
 use chaos_node::NodeFault;
 
@@ -149,6 +149,7 @@ fn read_all<T: Talk, O: Observer>(
         }
         observer.reach(bytes.len());
     }
+    report_bound(&flight, &row, observer);
     let came = next_reply(talk, &row, &mut flight, &mut reply, observer)?;
     let tid = first + count as u32;
     let mut wanted = Reply::new();
@@ -159,7 +160,8 @@ fn read_all<T: Talk, O: Observer>(
 /// Gets a file. Where the answer is `Done`, the commands that were sent are OPEN, READs up to the
 /// one answered EOF, and CLOSE, and the bytes are those of the replies, joined, as many as OPEN and
 /// CLOSE gave. The observer gets the count of the file's bytes behind the reply to OPEN, and behind
-/// each reply to a READ how many of them are here.
+/// each reply to a READ how many of them are here. Behind the last of these it gets how many READs
+/// there was room for at first, where there are more.
 ///
 /// # Errors
 /// Those of the talk's turns, and `NoMemory`.

@@ -13,6 +13,10 @@ pub trait Observer {
     /// So many bytes of the file were copied.
     fn reach(&mut self, bytes: usize);
 
+    /// The file has more commands than there was room for at first. So many were sent before the
+    /// first reply came, and no more are ever without a reply.
+    fn bound(&mut self, commands: usize);
+
     /// A reply came.
     fn hear(&mut self);
 
@@ -35,6 +39,8 @@ impl Observer for Unobserved {
     fn expect(&mut self, bytes: usize) {}
 
     fn reach(&mut self, bytes: usize) {}
+
+    fn bound(&mut self, commands: usize) {}
 
     fn hear(&mut self) {}
 

@@ -13,7 +13,9 @@ use crate::observer::Observer;
 use crate::row::Row;
 use crate::said::write_wanted;
 use crate::talk::Talk;
-use crate::window::{Flight, ask_one, ask_telling, is_wanted, next_reply, refusal, settled};
+use crate::window::{
+    Flight, ask_one, ask_telling, is_wanted, next_reply, refusal, report_bound, settled,
+};
 use chaos_file::{Command, MAX_CHUNK, Reply, Said};
 use chaos_node::NodeFault;
 
@@ -67,6 +69,7 @@ fn write_all<T: Talk, O: Observer>(
         }
         observer.reach(written);
     }
+    report_bound(&flight, &row, observer);
     Ok(CopyEnd::Done)
 }
 
@@ -85,7 +88,8 @@ fn unanswered(is_sent: bool) -> CopyEnd
 /// WRITEs and CLOSE, and the server answered that it has the whole file. Where the CLOSE was sent
 /// and got no reply it is `Unknown` whether the file was put; CLOSE is sent only after each WRITE
 /// was answered by its count. The observer gets the count of the file's bytes, and behind each
-/// reply to a WRITE how many of them the server has.
+/// reply to a WRITE how many of them the server has. Behind the last of these it gets how many
+/// WRITEs there was room for at first, where there are more.
 ///
 /// # Errors
 /// Those of the talk's turns.

@@ -4,7 +4,9 @@ ghost use Rattle.std.specs.Fmt.{decimal};
 ghost use Rattle.file_copy.specs.Copy.{upto};
 ghost use Rattle.file_copy.specs.Talk.{Since, Received, SentOrNot, InVain, IsLate, Unheard, received_in, sent_if, taken, over_where};
 ghost use Rattle.file_copy.specs.Row.{RequestFits, request_command, row_command};
+ghost use Rattle.file_copy.specs.Flight.{bound_of, limit_after};
 ghost use Rattle.file_copy.specs.declared.limits.TheConstants.{MAX_FIRST};
+ghost use Rattle.file_copy.specs.declared.window.TheConstants.{NO_LIMIT};
 ghost use Rattle.chaos_file.specs.declared.limits.TheConstants.{MAX_NAME, MAX_HANDLE};
 ghost use Rattle.chaos_file.specs.Names.{is_name};
 ghost use Rattle.chaos_file.specs.Reply.{reading_of};
@@ -43,6 +45,7 @@ impl Flight {
     pub fn new() -> Self
         ensures sent { result.sent ≡ 0 }
         ensures received { result.received ≡ 0 }
+        ensures limit { result.limit ≡ NO_LIMIT }
     {
         Flight {
             sent: 0,
@@ -72,11 +75,31 @@ impl Flight {
     fn note(&mut self, sent: usize)
         ensures sent { self.new.sent ≡ sent }
         ensures received { self.new.received ≡ self.old.received }
+        ensures limit { self.new.limit ≡ limit_after self.old sent }
     {
         self.sent = sent;
         if self.limit == NO_LIMIT && sent > self.received {
             self.limit = sent - self.received;
         }
+    }
+
+    /// How many of so many commands there was room for at first, where there are more.
+    pub fn bound(&self, count: usize) -> Option<usize>
+        ensures { result ≡ bound_of self.now count }
+    {
+        if self.limit < count {
+            Some(self.limit)
+        } else {
+            None
+        }
+    }
+}
+
+/// Reports to the observer how many of a row's commands there was room for at first, where the row
+/// has more.
+pub fn report_bound<O: Observer>(flight: &Flight, row: &Row<'_>, observer: &mut O) {
+    if let Some(commands) = flight.bound(row.count) {
+        observer.bound(commands);
     }
 }
 

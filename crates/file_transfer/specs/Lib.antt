@@ -1,7 +1,6 @@
 pub mod Severity
 pub mod Outcome
 pub mod Progress
-pub mod Naming
 pub mod Runs
 pub mod Copied
 pub mod Settling

@@ -6,12 +6,10 @@ use crate::source::open_source;
 use crate::stream::{STDOUT, check_stream, write_stream};
 use crate::whole::{check_whole, write_at};
 use file_copy::read_whole;
+use file_names::STREAM;
 use std::fs::File;
 use std::io;
 use std::rt::Files;
-
-/// The name of standard input and output.
-pub const STREAM: &str = "-";
 
 /// The name of a device that is written as such, as standard output is.
 const NOWHERE: &str = "/dev/null";

@@ -3,9 +3,9 @@ ghost use Rattle.std.specs.Prelude.{◌≡◌, ◌++◌, ◌∷◌, [], List, �
 ghost use Rattle.file_transfer.specs.declared.outcome.Outcome.{Outcome};
 ghost use Rattle.file_transfer.specs.Runs.{Reported, Runs, reported_after};
 
-use crate::naming::Named;
 use crate::outcome::Outcome;
 use crate::severity::Severity;
+use file_names::Named;
 
 /// Whoever copies a file.
 pub trait FileTask {

@@ -2,13 +2,12 @@
 ghost use Rattle.std.specs.Prelude.{◌≡◌, ◌≤◌, ◌∷◌, false, List, ℕ, length, IfOk, IfErr, OnOk, OnErr, MatchResult};
 ghost use Rattle.chaos_file.specs.declared.limits.TheConstants.{MAX_PATH};
 ghost use Rattle.file_copy.specs.declared.text.Charset.{Charset};
-ghost use Rattle.file_transfer.specs.Naming.{local_of};
+ghost use Rattle.file_names.specs.Destination.{local_of};
 ghost use Rattle.file_transfer.specs.Outcome.{is_well, MatchCopied};
 ghost use Rattle.file_transfer.specs.Copied.{GetsWhole, HasGot, bytes_in, contents_of, written_after};
 
 use crate::file_task::FileTask;
 use crate::local_files::LocalFiles;
-use crate::naming::Destination;
 use crate::outcome::{Contents, Outcome};
 use crate::progress_sink::ProgressSink;
 use crate::session::Session;
@@ -16,6 +15,7 @@ use crate::text::in_set;
 use chaos_file::MAX_PATH;
 use chaos_node::NodeFault;
 use file_copy::{Charset, Talk};
+use file_names::Destination;
 use std::alloc::Global;
 
 /// A user who gets files, each into a local one.

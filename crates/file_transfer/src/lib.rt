@@ -12,7 +12,6 @@ mod file_task;
 mod get_files;
 mod kind;
 mod local_files;
-mod naming;
 mod outcome;
 mod progress;
 mod progress_sink;
@@ -26,13 +25,14 @@ mod text;
 mod whole;
 
 pub use delete_files::DeleteFiles;
-pub use disk::{Disk, STREAM};
+pub use disk::Disk;
 pub use file_task::{FileTask, OutcomeSink, run_copies};
 pub use get_files::GetFiles;
 pub use local_files::LocalFiles;
-pub use naming::{Destination, Named, PutFile};
 pub use outcome::{Contents, Outcome};
-pub use progress::{Progress, SHOW_MILLIS, Share, law_limits};
+pub use progress::{
+    Mark, Progress, SHOW_MILLIS, SPEED_MILLIS, STALL_MILLIS, Share, Speed, law_limits,
+};
 pub use progress_sink::ProgressSink;
 pub use put_files::PutFiles;
 pub use session::Session;

@@ -7,12 +7,12 @@ ghost use Rattle.file_transfer.specs.Copied.{HasPut, PutsWhole, bytes_in, conten
 
 use crate::file_task::FileTask;
 use crate::local_files::LocalFiles;
-use crate::naming::PutFile;
 use crate::outcome::{Contents, Outcome};
 use crate::progress_sink::ProgressSink;
 use crate::session::Session;
 use crate::text::{has_returns, in_set};
 use file_copy::{Charset, Talk};
+use file_names::PutFile;
 
 /// A user who puts local files, each to a path of the server's.
 #[derive(Drop)]

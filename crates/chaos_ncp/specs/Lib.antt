@@ -1,0 +1,5 @@
+pub mod Codes
+pub mod Export
+pub mod Handle
+pub mod Node
+pub mod Raw

@@ -1,0 +1,44 @@
+//! The peers of `serve`: some are followed, and a hosts table may be read again.
+ghost use Rattle.chaosd.specs.ServedPeers.{ServesPeers};
+
+use crate::table_watch::TableWatch;
+use chaos_link::{PeerKeeper, Peers};
+use chaosd_hosts::{FollowedHosts, HostsTable};
+use std::fs::{File, Files};
+use std::net::SocketAddrV4;
+use std::time::Clock;
+
+/// Keeps the peers of a server. A host that is followed is where its last good datagram came from.
+/// Behind an idle turn the hosts table is read again, if there is one and its file changed.
+#[derive(Drop)]
+pub(crate) struct ServedPeers<'a, R> {
+    pub(crate) followed: FollowedHosts,
+    /// The file of the hosts table, where the peers come from one.
+    pub(crate) table: Option<TableWatch<'a, R>>,
+}
+
+impl<R: AllocGlobal + Clock + Eprint + Files<File = File>> PeerKeeper for ServedPeers<'_, R> {
+    ghost becomes = { λ keeper peers came next_keeper next.
+        ServesPeers keeper.followed peers came next_keeper.followed next };
+
+    fn hear(&mut self, peers: &mut Peers, from: SocketAddrV4, datagram: &[u8]) {
+        self.followed.hear(peers, from, datagram);
+    }
+
+    fn rest(&mut self, peers: &mut Peers) {
+        let Some(watch) = &mut self.table else {
+            return;
+        };
+        let Some(text) = watch.news() else {
+            return;
+        };
+        match HostsTable::read(text.as_str()) {
+            Ok(table) => {
+                watch.log_hosts(table.hosts().len());
+                self.followed.follow(table.followed());
+                *peers = table.into_peers_after(peers);
+            }
+            Err(fault) => watch.log(&format_args!("{fault}; the hosts stay")),
+        }
+    }
+}

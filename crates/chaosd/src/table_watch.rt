@@ -1,0 +1,147 @@
+//! A hosts table that is read again when its file changed.
+use chaos_file::PrintedName;
+use chaosd_call::{TableFile, read_table};
+use chaosd_log::LogLines;
+use std::fmt::Display;
+use std::fs::{File, Files, Metadata};
+use std::io;
+use std::os::unix::fs::MetadataExt;
+use std::time::Clock;
+
+/// The seconds after which the file is looked at again.
+const LOOK_SECONDS: u64 = 3;
+
+/// What is seen of a file without reading it.
+#[derive(Clone, Copy, PartialEq, Eq)]
+struct Seen {
+    length: u64,
+    /// When the file was changed: seconds, and nanoseconds.
+    changed: (i64, i64),
+}
+
+impl Seen {
+    fn of(data: &Metadata) -> Seen {
+        Seen {
+            length: data.len(),
+            changed: (data.mtime(), data.mtime_nsec()),
+        }
+    }
+}
+
+/// The file of a hosts table, which is looked at now and then.
+#[derive(Drop)]
+pub(crate) struct TableWatch<'a, R> {
+    rt: &'a R,
+    lines: LogLines<'a, R>,
+    /// Whether only faults are logged.
+    is_quiet: bool,
+    /// The table as it was read last.
+    file: TableFile,
+    /// What was seen of the file when it was looked at last, if it was there.
+    seen: Option<Seen>,
+    /// Whether it was logged that the file can't be read.
+    is_missed: bool,
+    /// The second of the clock from which on the file is looked at again.
+    next: u64,
+}
+
+impl<'a, R: AllocGlobal + Clock + Eprint + Files<File = File>> TableWatch<'a, R> {
+    /// A watch over this file, which was just read.
+    pub(crate) fn new(rt: &'a R, lines: LogLines<'a, R>, is_quiet: bool, file: TableFile) -> Self {
+        TableWatch {
+            rt,
+            lines,
+            is_quiet,
+            file,
+            seen: None,
+            is_missed: false,
+            next: 0,
+        }
+    }
+
+    /// What is seen of the file. A file that isn't regular might let the service wait.
+    fn see(&self) -> io::Result<Seen> {
+        let data = self.rt.metadata(self.file.name.as_str())?;
+        if data.is_file() {
+            Ok(Seen::of(&data))
+        } else {
+            Err(io::Error::from(io::ErrorKind::Unsupported))
+        }
+    }
+
+    /// Logs that the table was taken in, with so many other hosts.
+    pub(crate) fn log_hosts(&self, count: usize) {
+        if !self.is_quiet {
+            self.log(&format_args!("read again, {count} other hosts"));
+        }
+    }
+
+    /// Logs what is wrong with the table.
+    pub(crate) fn log<D: Display>(&self, what: &D) {
+        let name = PrintedName(self.file.name.as_str());
+        self.lines
+            .write(&format_args!("hosts table {name}: {what}"));
+    }
+
+    /// Whether it is time to look at the file again.
+    fn is_due(&mut self) -> bool {
+        let Ok(now) = self.rt.monotonic() else {
+            return false;
+        };
+        let now = now.as_secs();
+        let is_due = now >= self.next;
+        if is_due {
+            self.next = now.saturating_add(LOOK_SECONDS);
+        }
+        is_due
+    }
+
+    /// Reads the file if it isn't what was seen last.
+    fn read(&mut self) -> io::Result<Option<String>> {
+        let seen = self.see()?;
+        if self.seen == Some(seen) {
+            return Ok(None);
+        }
+        let text = read_table(self.rt, self.file.name.as_str())?;
+        self.seen = Some(seen);
+        Ok(Some(text))
+    }
+
+    /// The text of the file, where it is another than was read last, which is then kept.
+    fn take(&mut self) -> io::Result<Option<String>> {
+        let Some(text) = self.read()? else {
+            return Ok(None);
+        };
+        if text == self.file.text {
+            return Ok(None);
+        }
+        self.file.text = text.clone()?;
+        Ok(Some(text))
+    }
+
+    /// Looks at the file now and then. Gives its text where it is another than was read last. That
+    /// the file can't be read is logged once.
+    pub(crate) fn news(&mut self) -> Option<String> {
+        if !self.is_due() {
+            return None;
+        }
+        match self.take() {
+            Ok(text) => {
+                self.is_missed = false;
+                text
+            }
+            Err(error) => {
+                self.miss(&error);
+                None
+            }
+        }
+    }
+
+    /// Logs once that the file can't be read.
+    fn miss(&mut self, error: &io::Error) {
+        if !self.is_missed {
+            self.is_missed = true;
+            self.log(&format_args!("can't be read, so the hosts stay: {error}"));
+        }
+    }
+}

@@ -1,0 +1,9 @@
+pub mod Called
+pub mod Config
+pub mod CopyRun
+pub mod Exit
+pub mod Hearing
+pub mod Hops
+pub mod Patience
+pub mod ProgressText
+pub mod Routes

@@ -1,0 +1,119 @@
+//! The runs of `delete` and `rename`: what another host does with its files.
+use crate::dialogs::{Caller, Work};
+use crate::exit_status::ExitStatus;
+use crate::file_words::{CHANGE_UNKNOWN, FileWords};
+use crate::progress::ProgressLine;
+use chaos_file::MAX_PATH;
+use chaos_link::Link;
+use chaos_node::ReadableClock;
+use chaosd_line::{Calling, Delete, Rename};
+use file_client::{Client, ClientHost, ClockDriver, Timing};
+use file_copy::Talk;
+use file_names::Destination;
+use file_transfer::{DeleteFiles, Outcome, OutcomeSink, ProgressSink, Session, run_copies};
+
+/// Reports changes. A change that was made is reported where the user asked for that.
+fn words_of<'a, 'r, R: Eprint>(
+    rt: &'a R,
+    caller: &'a Caller<'a, 'r, R>,
+    is_verbose: bool,
+    done: &'static str,
+) -> FileWords<'a, 'r, 'static, R> {
+    FileWords {
+        rt,
+        caller,
+        run: None,
+        is_verbose,
+        destination: Destination::SameName,
+        done,
+        unknown: CHANGE_UNKNOWN,
+    }
+}
+
+/// Nobody is shown how far a change has come.
+fn no_progress<'a, 'r, R: AllocGlobal + Eprint>(
+    rt: &'a R,
+    caller: &Caller<'a, 'r, R>,
+) -> ProgressLine<'a, 'r, R> {
+    ProgressLine::new(rt, caller.waiting, None, false, true)
+}
+
+impl<R: AllocGlobal + ReadableClock + Eprint> Work<R> for Delete<'_> {
+    fn calling(&self) -> &Calling<'_> {
+        &self.calling
+    }
+
+    fn shows_waiting(&self, is_terminal: bool) -> bool {
+        is_terminal && !self.is_quiet
+    }
+
+    fn run<'v, 'c, L: Link>(
+        &self,
+        rt: &'v R,
+        host: ClientHost,
+        clock: &'c R,
+        link: &'c mut L,
+        timing: Timing,
+        caller: &Caller<'v, '_, R>,
+    ) -> ExitStatus {
+        let progress = no_progress(rt, caller);
+        let mut words = words_of(&*rt, &*caller, self.is_verbose, "deleted");
+        let mut host = host;
+        let driver = ClockDriver::new(clock, link, timing);
+        let client = Client {
+            host: &mut host,
+            driver,
+        };
+        let mut deletes = DeleteFiles {
+            session: Session::new(client, progress, self.calling.login),
+        };
+        let worst = run_copies(&mut deletes, &mut words, self.paths.as_slice());
+        deletes.session.end();
+        ExitStatus::of_files(worst)
+    }
+}
+
+/// Renames a file, and says what came of it.
+fn renamed<T: Talk, V: ProgressSink>(
+    session: &mut Session<'_, T, V>,
+    line: &Rename<'_>,
+) -> Outcome {
+    if line.from.len() > MAX_PATH || line.to.len() > MAX_PATH {
+        return Outcome::TooLong;
+    }
+    Outcome::of_change(session.rename(line.from.as_bytes(), line.to.as_bytes()))
+}
+
+impl<R: AllocGlobal + ReadableClock + Eprint> Work<R> for Rename<'_> {
+    fn calling(&self) -> &Calling<'_> {
+        &self.calling
+    }
+
+    fn shows_waiting(&self, is_terminal: bool) -> bool {
+        is_terminal && !self.is_quiet
+    }
+
+    fn run<'v, 'c, L: Link>(
+        &self,
+        rt: &'v R,
+        host: ClientHost,
+        clock: &'c R,
+        link: &'c mut L,
+        timing: Timing,
+        caller: &Caller<'v, '_, R>,
+    ) -> ExitStatus {
+        let progress = no_progress(rt, caller);
+        let mut words = words_of(&*rt, &*caller, self.is_verbose, "renamed");
+        let mut host = host;
+        let driver = ClockDriver::new(clock, link, timing);
+        let client = Client {
+            host: &mut host,
+            driver,
+        };
+        let mut session = Session::new(client, progress, self.calling.login);
+        let outcome = renamed(&mut session, self);
+        words.report(self.from, &outcome);
+        session.end();
+        ExitStatus::of_files(outcome.severity())
+    }
+}

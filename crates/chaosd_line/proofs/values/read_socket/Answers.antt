@@ -1,7 +1,0 @@
--- std's parser reads by std's reader.
-use Rattle.std.proofs.Common.{◌∙◌}
-use Rattle.chaosd_line.proofs.Reading.{socket_parsed}
-use Rattle.chaosd_line.proofs.values.read_socket.Goals as goal
-
-pub returns : goal.returns
-returns c = c.ok.ensures.value ∙ socket_parsed c.args.text.now c.parse.result c.parse.ensures.value
