@@ -1,0 +1,9 @@
+pub mod Answered
+pub mod Bytes
+pub mod Carried
+pub mod Parts
+pub mod Safe
+pub mod Sealed
+pub mod Table
+pub mod Vectors
+pub mod Windows

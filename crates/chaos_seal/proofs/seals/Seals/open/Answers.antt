@@ -1,0 +1,34 @@
+use Rattle.std.proofs.Common.{◌∙◌, ap, arith, length-take, take}
+use Rattle.chaos_seal.proofs.Answered.{hello_long, opened_so, payload_long}
+use Rattle.chaos_seal.proofs.seals.Seals.open.Goals as goal
+
+pub lift-requires-clause-long : goal.lift-requires-clause-long
+lift-requires-clause-long c =
+    let (long, is) =
+    payload_long c.args.self.now c.take-opened.new.self (take c.args.count c.args.buffer.now) c.in-Payload.field-0
+    (rw c.in-Payload.is at c.take-opened.ensures) in
+    omega (arith, long, length-take c.args.count c.args.buffer.now)
+
+pub returns-in-Payload-clause-only : goal.returns-in-Payload-clause-only
+returns-in-Payload-clause-only c p h payload comes =
+    opened_so c.args.self.now c.take-opened.new.self (take c.args.count c.args.buffer.now) p h payload c.take-opened.result comes
+    c.take-opened.ensures
+
+pub returns-in-Payload-clause-payload : goal.returns-in-Payload-clause-payload
+returns-in-Payload-clause-payload c n payload =
+    let (long, is) =
+    payload_long c.args.self.now c.take-opened.new.self (take c.args.count c.args.buffer.now) n
+    (rw payload at c.take-opened.ensures) in
+    ap (λ m. take m c.lift.new.buffer) is ∙ c.lift.ensures
+
+pub returns-in_default-clause-only : goal.returns-in_default-clause-only
+returns-in_default-clause-only c p h payload comes =
+    opened_so c.args.self.now c.take-opened.new.self (take c.args.count c.args.buffer.now) p h payload c.take-opened.result comes
+    c.take-opened.ensures
+
+pub returns-in_default-clause-longer : goal.returns-in_default-clause-longer
+returns-in_default-clause-longer c to session asks =
+    let longer =
+    hello_long c.args.self.now c.take-opened.new.self (take c.args.count c.args.buffer.now) to session
+    (rw asks at c.take-opened.ensures) in
+    omega (arith, longer, length-take c.args.count c.args.buffer.now)

@@ -1,0 +1,9 @@
+pub mod Hmac
+pub mod Law
+pub mod Opening
+pub mod Peers
+pub mod Places
+pub mod Seal
+pub mod Sending
+pub mod Sources
+pub mod Window

@@ -1,0 +1,18 @@
+//! The laws of opening.
+ghost use Rattle.chaos_seal.specs.Law.{IsOpened, IsSafe};
+
+/// The law of what is handed up, over the definitions alone.
+pub fn law_handed_up()
+    // What is handed up was sealed by its host for this run of the receiver, each datagram at most
+    // once. The sessions of a host never go back, and within a session each datagram lies fewer than
+    // 256 behind each one handed up before. The one premise is that without the key nobody makes a
+    // right tag.
+    ensures { IsSafe }
+{}
+
+/// The law of what is opened, over the definitions alone.
+pub fn law_opened()
+    // Whatever a host with a key sealed for this one is opened, with exactly the numbers and the
+    // payload that the host sealed.
+    ensures { IsOpened }
+{}
