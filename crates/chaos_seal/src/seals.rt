@@ -91,6 +91,14 @@ impl Seals {
         self.place_of(address).is_some()
     }
 
+    /// Whether no host has a key.
+    pub fn is_empty(&self) -> bool
+        // The answer is true exactly where no key was added.
+        ensures { IsTrue result ↔ (self.now.peers ≡ []) }
+    {
+        self.peers.is_empty()
+    }
+
     /// How many datagrams were sealed for a host of which nothing was opened yet. The answer is
     /// `None` where something was, or the host has no key.
     pub fn unheard(&self, address: u16) -> Option<u64>
