@@ -1,6 +1,7 @@
 pub mod Answered
 pub mod Bytes
 pub mod Carried
+pub mod Changed
 pub mod Parts
 pub mod Safe
 pub mod Sealed

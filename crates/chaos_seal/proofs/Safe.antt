@@ -4,18 +4,16 @@ use Rattle.std.proofs.lemmas.Bool.{cases_lt, cases_eq}
 use Rattle.std.proofs.lemmas.List.Elements.{All-head, All-tail}
 use Rattle.std.proofs.lemmas.Bool.Decides.{nat_tests}
 use Rattle.chaos_seal.specs.Window.{IsFresh, hear, nothing_heard}
-use Rattle.chaos_seal.specs.Peers.{Keeps, SealsView, heard_of, peer_of, with_peer}
-use Rattle.chaos_seal.specs.Opening.{Answers, Comes, IsTimely, Opens, after, heard, in_session}
+use Rattle.chaos_seal.specs.Peers.{Keeps, SealsView, heard_of, peer_of}
+use Rattle.chaos_seal.specs.Opening.{IsTimely, Opens, after, heard, in_session}
 use Rattle.chaos_seal.specs.Law.{Every, Follows, HandsUp, HasRightTag, IsSafe, IsUnheard, Pairwise, Rises, Up, head_for, key_of}
-use Rattle.chaos_seal.specs.declared.fault.SealFault.{SealFault}
-use Rattle.chaos_seal.specs.declared.fault.SealFault.TheVariants as faults
 use Rattle.chaos_seal.specs.declared.form.Head.{Head}
 use Rattle.chaos_seal.specs.declared.opened.Opened.{Opened}
 use Rattle.chaos_seal.specs.declared.opened.Opened.TheVariants as opened
 use Rattle.chaos_seal.specs.declared.peer.SealPeer.{SealPeer}
-use Rattle.chaos_seal.proofs.Answered.{comes_up, heard_address, newer, older}
+use Rattle.chaos_seal.proofs.Answered.{comes_up, newer, older}
+use Rattle.chaos_seal.proofs.Changed.{changes, found_else, found_here, sealing_kept}
 use Rattle.chaos_seal.proofs.Parts.{opens_once}
-use Rattle.chaos_seal.proofs.Table.{found_itself, found_other, its_address}
 use Rattle.chaos_seal.proofs.Windows.{IsWhole, apart, fresh_before, whole_heard, whole_nothing}
 
 pub every_more : {X : Type 0} (P Q : X → Type 0) (xs : List X) → ((x : X) → P x → Q x) → Every P xs → Every Q xs
@@ -86,29 +84,11 @@ same_some : (p q : SealPeer) → ◌≡◌ {A = Option SealPeer} (Some p) (Some 
 same_some p q e = cc
 
 heard_key : (p : SealPeer) (s c : ℕ) → (heard p s c).key ≡ p.key
-heard_key p s c =
-    elim (cases_lt p.session s) [
-      | inl lt ↦ rw (newer p s lt) refl
-      | inr ge ↦ rw (older p s ge) refl
-    ]
+heard_key p s c = ap (λ (q : SealPeer). q.key) (sealing_kept p s c)
 
 -- ---- a step that hears a counter
 
 module _ (v : SealsView) (p : SealPeer) (h : Head) (known : peer_of h.from v.peers ≡ Some p) where
-  abbrev changed : SealPeer
-  changed = heard p h.session h.counter
-
-  address_is : changed.address ≡ h.from
-  address_is = heard_address p h.session h.counter ∙ its_address h.from v.peers p known
-
-  found_here : peer_of h.from (after v p h).peers ≡ Some changed
-  found_here =
-      ap (λ a. peer_of a (with_peer changed v.peers)) (sym address_is)
-      ∙ found_itself changed v.peers p (ap (λ a. peer_of a v.peers) address_is ∙ known)
-
-  found_else : (a : ℕ) → h.from ≢ a → peer_of a (after v p h).peers ≡ peer_of a v.peers
-  found_else a ne = found_other a changed v.peers (λ e. ne (sym address_is ∙ e))
-
   after_same : Same v (after v p h)
   after_same = record {
     me = refl;
@@ -116,11 +96,11 @@ module _ (v : SealsView) (p : SealPeer) (h : Head) (known : peer_of h.from v.pee
     keys = λ a.
         elim (cases_eq h.from a) [
           | inl e ↦
-              let found : peer_of a (after v p h).peers ≡ Some changed = rw e at found_here in
+              let found : peer_of a (after v p h).peers ≡ Some (heard p h.session h.counter) = rw e at (found_here v p h known) in
               let was : peer_of a v.peers ≡ Some p = rw e at known in
               ap (option_map (λ (q : SealPeer). q.key)) found ∙ ap Some (heard_key p h.session h.counter)
               ∙ sym (ap (option_map (λ (q : SealPeer). q.key)) was)
-          | inr ne ↦ ap (option_map (λ (q : SealPeer). q.key)) (found_else a ne)
+          | inr ne ↦ ap (option_map (λ (q : SealPeer). q.key)) (found_else v p h known a ne)
         ];
   }
 
@@ -128,10 +108,10 @@ module _ (v : SealsView) (p : SealPeer) (h : Head) (known : peer_of h.from v.pee
   after_whole whole = λ a q found.
       elim (cases_eq h.from a) [
         | inl e ↦
-            let is : peer_of a (after v p h).peers ≡ Some changed = rw e at found_here in
-            let same : changed ≡ q = same_some changed q (sym is ∙ found) in
+            let is : peer_of a (after v p h).peers ≡ Some (heard p h.session h.counter) = rw e at (found_here v p h known) in
+            let same : heard p h.session h.counter ≡ q = same_some (heard p h.session h.counter) q (sym is ∙ found) in
             rw (← same) (whole_heard (in_session p h.session).window h.counter (whole_in p h.session (whole h.from p known)))
-        | inr ne ↦ whole a q (sym (found_else a ne) ∙ found)
+        | inr ne ↦ whole a q (sym (found_else v p h known a ne) ∙ found)
       ]
 
   after_beyond : (u : Up) → Whole v → IsTimely v p h → Beyond (after v p h) u → Beyond v u
@@ -139,11 +119,11 @@ module _ (v : SealsView) (p : SealPeer) (h : Head) (known : peer_of h.from v.pee
       elim (cases_eq h.from u.from) [
         | inl e ↦
             let was : peer_of u.from v.peers ≡ Some p = rw e at known in
-            let is : peer_of u.from (after v p h).peers ≡ Some changed = rw e at found_here in
+            let is : peer_of u.from (after v p h).peers ≡ Some (heard p h.session h.counter) = rw e at (found_here v p h known) in
             let same : p ≡ q = same_some p q (sym was ∙ found) in
             rw (← same)
-            (beyond_before p h.session h.counter u.session u.counter (whole h.from p known) timely.1 timely.2 (beyond changed is))
-        | inr ne ↦ beyond q (found_else u.from ne ∙ found)
+            (beyond_before p h.session h.counter u.session u.counter (whole h.from p known) timely.1 timely.2 (beyond (heard p h.session h.counter) is))
+        | inr ne ↦ beyond q (found_else v p h known u.from ne ∙ found)
       ]
 
 -- ---- one datagram
@@ -154,39 +134,16 @@ Stays v w = Same v w × (Whole v → Whole w × ((u : Up) → Beyond w u → Bey
 stays_self : (v w : SealsView) → w ≡ v → Stays v w
 stays_self v w e = (same_self v w e, λ whole. (rw e whole, λ u b. rw e at b))
 
-stays_after : (v w : SealsView) (d : List ℕ) (p : SealPeer) (h : Head) (payload : List ℕ) → Comes v d p h payload → IsTimely v p h
-    → w ≡ after v p h → Stays v w
-stays_after v w d p h payload c timely e =
-    rw e (
-      after_same v p h c.known,
-      λ whole. (after_whole v p h c.known whole, λ u b. after_beyond v p h c.known u whole timely b),
-    )
-
-declined : (v w : SealsView) (d : List ℕ) (p : SealPeer) (h : Head) (payload : List ℕ) (fault : SealFault) → Comes v d p h payload
-    → Answers v p h payload (opened.Refused fault) w → Stays v w
-declined v w d p h payload faults.Stale c a = stays_self v w a.2
-declined v w d p h payload faults.OldSession c a = stays_self v w a.2
-declined v w d p h payload faults.OldCounter c a = stays_self v w a.2
-declined v w d p h payload faults.ForeignPacket c a = stays_after v w d p h payload c a.0 a.3
-declined v w d p h payload faults.Short c a = absurd a
-declined v w d p h payload faults.BadVersion c a = absurd a
-declined v w d p h payload faults.OtherHost c a = absurd a
-declined v w d p h payload faults.NoKey c a = absurd a
-declined v w d p h payload faults.BadTag c a = absurd a
-declined v w d p h payload faults.Unsealed c a = absurd a
-
-answered : (v w : SealsView) (d : List ℕ) (p : SealPeer) (h : Head) (payload : List ℕ) (answer : Opened) → Comes v d p h payload
-    → Answers v p h payload answer w → Stays v w
-answered v w d p h payload (opened.Payload count) c a = stays_after v w d p h payload c a.0 a.4
-answered v w d p h payload (opened.Learned from) c a = stays_after v w d p h payload c a.0 a.3
-answered v w d p h payload (opened.Hello to session) c a = stays_self v w a.4
-answered v w d p h payload (opened.Refused fault) c a = declined v w d p h payload fault c a
-answered v w d p h payload opened.Plain c a = absurd a
-
 step_stays : (v w : SealsView) (d : List ℕ) (answer : Opened) → Opens v d answer w → Stays v w
-step_stays v w d answer (inl plain) = stays_self v w plain.2
-step_stays v w d answer (inr (inl (is, fault, refuses, same, e))) = stays_self v w e
-step_stays v w d answer (inr (inr (p, h, payload, c, a))) = answered v w d p h payload answer c a
+step_stays v w d answer opens =
+    elim (changes v w d answer opens) [
+      | inl same ↦ stays_self v w same
+      | inr (p, h, known, from, timely, e) ↦
+          rw e (
+            after_same v p h known,
+            λ whole. (after_whole v p h known whole, λ u b. after_beyond v p h known u whole timely b),
+          )
+    ]
 
 -- ---- what sealing leaves
 

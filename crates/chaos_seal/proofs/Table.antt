@@ -195,3 +195,11 @@ kept v q p known same = record {
 
 pub kept_all : (v : SealsView) → Keeps v v
 kept_all v = record { me = refl; session = refl; heard = λ address. refl }
+
+-- no host has a key where there are none
+pub no_keys : (v : SealsView) (address : ℕ) → length v.peers ≡ 0 → has_key address v ≡ false
+no_keys v address none = by v.peers none
+  where
+    by : (ps : List SealPeer) → length ps ≡ 0 → is_some (peer_of address ps) ≡ false
+    by [] e = refl
+    by (p ∷ ps) e = absurd (omega arith)

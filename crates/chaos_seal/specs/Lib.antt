@@ -7,3 +7,4 @@ pub mod Seal
 pub mod Sending
 pub mod Sources
 pub mod Window
+pub mod Vector

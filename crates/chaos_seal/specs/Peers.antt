@@ -48,3 +48,15 @@ pub record Keeps (v w : SealsView) : Type 0 where
   pub me : w.me ≡ v.me
   pub session : w.session ≡ v.session
   pub heard : (address : ℕ) → option_map heard_of (peer_of address w.peers) ≡ option_map heard_of (peer_of address v.peers)
+
+-- ---- What opening leaves as it is
+
+-- what is sealed with for a host: its address, its key, and the greatest counter
+abbrev pub sealing_of : SealPeer → SealPeer
+sealing_of p = record p { session = 0; window = nothing_heard }
+
+-- The own address and session stay, and of each host its key and the greatest counter sealed for it.
+pub record KeepsSealing (v w : SealsView) : Type 0 where
+  pub me : w.me ≡ v.me
+  pub session : w.session ≡ v.session
+  pub sealing : (address : ℕ) → option_map sealing_of (peer_of address w.peers) ≡ option_map sealing_of (peer_of address v.peers)

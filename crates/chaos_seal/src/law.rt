@@ -1,5 +1,6 @@
 //! The laws of opening.
 ghost use Rattle.chaos_seal.specs.Law.{IsOpened, IsSafe};
+ghost use Rattle.chaos_seal.specs.Vector.{IsVector};
 
 /// The law of what is handed up, over the definitions alone.
 pub fn law_handed_up()
@@ -15,4 +16,11 @@ pub fn law_opened()
     // Whatever a host with a key sealed for this one is opened, with exactly the numbers and the
     // payload that the host sealed.
     ensures { IsOpened }
+{}
+
+/// A vector: one sealed datagram, byte by byte.
+pub fn law_vector()
+    // The definitions of the form, of HMAC and of SHA-256 give the bytes of a datagram that was put
+    // together outside, with a tag that Python computed.
+    ensures { IsVector }
 {}

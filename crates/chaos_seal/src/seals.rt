@@ -1,11 +1,12 @@
 //! What a host seals and opens with.
 ghost use Rattle.std.specs.Prelude.{◌≡◌, ◌≢◌, ◌↔◌, ◌+◌, ◌≤◌, ◌<◌, ◌==◌, ◌++◌, ◌∷◌, [], ℕ, List, false, length, position, take, All, IfErr, IfNone, IfOk, IfSome, IsErrOf, IsNone, IsSome, IsTrue, OnErr, OnOk, Some, None};
 ghost use Rattle.chaos_link.specs.declared.limits.TheConstants.{LINK_ROOM, MAX_PEERS};
+ghost use Rattle.chaos_seal.specs.declared.fault.SealFault.{SealFault};
 ghost use Rattle.chaos_seal.specs.declared.form.Head.{Head};
 ghost use Rattle.chaos_seal.specs.declared.limits.TheConstants.{MAX_PAYLOAD, SEAL_BYTES};
 ghost use Rattle.chaos_seal.specs.declared.peer.SealPeer.{SealPeer};
-ghost use Rattle.chaos_seal.specs.Opening.{Answers, AnswersPlain, Comes, IsSealed, Opens, Refuses};
-ghost use Rattle.chaos_seal.specs.Peers.{Keeps, has_key, new_peer, peer_of, unheard_of};
+ghost use Rattle.chaos_seal.specs.Opening.{Answers, AnswersPlain, Comes, IsSealed, Opens, Refuses, from_in};
+ghost use Rattle.chaos_seal.specs.Peers.{Keeps, KeepsSealing, has_key, new_peer, peer_of, unheard_of};
 ghost use Rattle.chaos_seal.specs.Places.{CanSealAt, ComesAt, Gives, Greets, HearsAt, LateAt, SealsAt};
 ghost use Rattle.chaos_seal.specs.Seal.{payload_of, sealed_form};
 ghost use Rattle.chaos_seal.specs.Sending.{CanSeal, SealsFor, newest, next_head};
@@ -211,6 +212,14 @@ impl Seals {
         ensures only { (p : SealPeer) (h : Head) (payload : List ℕ)
             → Comes self.old (take count buffer.old) p h payload
             → Answers self.old p h payload result self.new }
+        // A refusal changes nothing, except that the counter of a packet of another source is heard.
+        ensures refused { (fault : SealFault) → result ≡ Opened.Refused fault →
+            fault ≢ SealFault.ForeignPacket → self.new ≡ self.old }
+        // At most what was heard of the sender that stands in the datagram changes. What is sealed
+        // with stays: the own address and session, each key, and each counter.
+        ensures others { (address : ℕ) → address ≢ from_in (take count buffer.old) →
+            peer_of address self.new.peers ≡ peer_of address self.old.peers }
+        ensures keeps { KeepsSealing self.old self.new }
         // The payload stands in the front of the buffer.
         ensures payload { (n : ℕ) → result ≡ Opened.Payload n →
             take n buffer.new ≡ payload_of (take count buffer.old) }
@@ -254,6 +263,9 @@ impl Seals {
     fn is_clear(&self, bytes: &[u8]) -> bool
         ensures { IsTrue result ↔ IsClear self.now bytes.now }
     {
+        if self.peers.is_empty() {
+            return true;
+        }
         self.knows_none(sources(bytes).as_slice())
     }
 

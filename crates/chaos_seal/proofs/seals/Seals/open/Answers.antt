@@ -1,5 +1,6 @@
 use Rattle.std.proofs.Common.{◌∙◌, ap, arith, length-take, take}
 use Rattle.chaos_seal.proofs.Answered.{hello_long, opened_so, payload_long}
+use Rattle.chaos_seal.proofs.Changed.{keeps_sealing, others_same, refused_same}
 use Rattle.chaos_seal.proofs.seals.Seals.open.Goals as goal
 
 pub lift-requires-clause-long : goal.lift-requires-clause-long
@@ -32,3 +33,33 @@ returns-in_default-clause-longer c to session asks =
     hello_long c.args.self.now c.take-opened.new.self (take c.args.count c.args.buffer.now) to session
     (rw asks at c.take-opened.ensures) in
     omega (arith, longer, length-take c.args.count c.args.buffer.now)
+
+pub returns-in-Payload-clause-refused : goal.returns-in-Payload-clause-refused
+returns-in-Payload-clause-refused c fault refused other =
+    refused_same c.args.self.now c.take-opened.new.self (take c.args.count c.args.buffer.now) fault
+    (rw refused at c.take-opened.ensures) other
+
+pub returns-in-Payload-clause-others : goal.returns-in-Payload-clause-others
+returns-in-Payload-clause-others c address other =
+    others_same c.args.self.now c.take-opened.new.self (take c.args.count c.args.buffer.now) c.take-opened.result address
+    c.take-opened.ensures other
+
+pub returns-in-Payload-clause-keeps : goal.returns-in-Payload-clause-keeps
+returns-in-Payload-clause-keeps c =
+    keeps_sealing c.args.self.now c.take-opened.new.self (take c.args.count c.args.buffer.now) c.take-opened.result
+    c.take-opened.ensures
+
+pub returns-in_default-clause-refused : goal.returns-in_default-clause-refused
+returns-in_default-clause-refused c fault refused other =
+    refused_same c.args.self.now c.take-opened.new.self (take c.args.count c.args.buffer.now) fault
+    (rw refused at c.take-opened.ensures) other
+
+pub returns-in_default-clause-others : goal.returns-in_default-clause-others
+returns-in_default-clause-others c address other =
+    others_same c.args.self.now c.take-opened.new.self (take c.args.count c.args.buffer.now) c.take-opened.result address
+    c.take-opened.ensures other
+
+pub returns-in_default-clause-keeps : goal.returns-in_default-clause-keeps
+returns-in_default-clause-keeps c =
+    keeps_sealing c.args.self.now c.take-opened.new.self (take c.args.count c.args.buffer.now) c.take-opened.result
+    c.take-opened.ensures
