@@ -1,0 +1,5 @@
+pub mod Socket
+pub mod Notice
+pub mod Beneath
+pub mod Calls
+pub mod Law
