@@ -1,5 +1,6 @@
 pub mod Answered
 pub mod Asked
+pub mod Destination
 pub mod Guarded
 pub mod Keys
 pub mod Received

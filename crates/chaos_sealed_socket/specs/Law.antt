@@ -1,9 +1,11 @@
 -- What goes out of a sealed socket.
-use Rattle.std.specs.Prelude.{◌≡◌, ◌<◌, ◌≤◌, ◌⊎◌, ℕ, List, [], ◌∷◌, length, map, Option, Some, None}
+use Rattle.std.specs.Prelude.{All, ◌≡◌, ◌<◌, ◌≤◌, ◌⊎◌, ℕ, List, [], ◌∷◌, length, map, Option, Some, None}
 use Rattle.std.specs.declared.net.socket_addr.SocketAddr.{SocketAddr}
+use Rattle.chaos_packet.specs.Packet.{PacketView}
 use Rattle.chaos_link.specs.Heard.{source_of}
 use Rattle.chaos_link.specs.Keeper.{Becomes}
 use Rattle.chaos_link.specs.Link.{Ask, Asks}
+use Rattle.chaos_link.specs.Packets.{CarriesAll}
 use Rattle.chaos_link.specs.Udp.{AsksSocket, Outgoing, SocketAsk, UdpView, datagrams_in}
 use Rattle.chaos_seal.specs.Law.{Every, Pairwise, key_of}
 use Rattle.chaos_seal.specs.Opening.{Opens}
@@ -102,3 +104,8 @@ AnswersShorter = (s : Sealing) (came : List ℕ) (host session : ℕ) (seals : S
     → Replies (opening.Hello host session) from (record { seals = seals; kept = s.kept }) turn
     → (turn.sent ≡ []) ⊎ ((answer : Outgoing) × (turn.sent ≡ answer ∷ []) × (source_of from ≡ Some answer.to)
     × (length answer.bytes < length came))
+
+-- Of a datagram that carries packets to one destination alone, by either version, the destination is theirs.
+abbrev pub HasTheirDestination : Type 0
+HasTheirDestination = (to : ℕ) (ps : List PacketView) (bytes : List ℕ) → CarriesAll ps bytes → All (λ p. p.dst ≡ to) ps
+    → destination_of bytes ≡ Some to

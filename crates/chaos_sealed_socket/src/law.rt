@@ -1,5 +1,5 @@
 //! The laws of a sealed socket.
-ghost use Rattle.chaos_sealed_socket.specs.Law.{AnswersShorter, LinkSealsWhatItSends, SealsWhatItSends};
+ghost use Rattle.chaos_sealed_socket.specs.Law.{AnswersShorter, HasTheirDestination, LinkSealsWhatItSends, SealsWhatItSends};
 
 use chaos_link::{DatagramSocket, PeerKeeper};
 
@@ -15,4 +15,7 @@ pub fn law_sealed<S: DatagramSocket, O, K: PeerKeeper>()
     // What answers a datagram that asks for a hello is one datagram at most, which goes to where that
     // came from, and is shorter.
     ensures answers { AnswersShorter }
+    // Of a datagram that carries packets to one destination alone, such as a load, the destination
+    // is theirs. So no such packet goes out in clear to a host with a key.
+    ensures destination { HasTheirDestination }
 {}

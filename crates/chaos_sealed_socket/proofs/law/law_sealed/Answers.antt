@@ -1,4 +1,5 @@
 use Rattle.chaos_sealed_socket.proofs.Answered.{answers_shorter}
+use Rattle.chaos_sealed_socket.proofs.Destination.{has_their_destination}
 use Rattle.chaos_sealed_socket.proofs.Guarded.{link_seals_what_it_sends, seals_what_it_sends}
 use Rattle.chaos_sealed_socket.proofs.law.law_sealed.Goals as goal
 
@@ -11,3 +12,6 @@ returns-clause-link g c =
 
 pub returns-clause-answers : goal.returns-clause-answers
 returns-clause-answers g c = answers_shorter
+
+pub returns-clause-destination : goal.returns-clause-destination
+returns-clause-destination g c = has_their_destination
