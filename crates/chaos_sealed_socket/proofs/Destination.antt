@@ -1,11 +1,11 @@
 -- The destination of a datagram is that of its packets.
-use Rattle.std.proofs.Common.{◌≡◌, ℕ, ◌+◌, ◌*◌, ◌/◌, ◌%◌, ◌<◌, ◌≤◌, false, nat_lt, List, [], ◌∷◌, ◌++◌, length, length-take, get_or, take, Some, All, refl, arith, ap, subst, sym, ◌∙◌, inl, inr}
+use Rattle.std.proofs.Common.{◌≡◌, ℕ, ◌+◌, ◌*◌, ◌/◌, ◌%◌, ◌≤◌, false, nat_lt, List, [], ◌∷◌, length, length-take, get_or, take, Some, All, refl, arith, ap, subst, sym, ◌∙◌, inl, inr}
 use Rattle.std.proofs.lemmas.Bool.Decides.{nat_tests}
 use Rattle.std.proofs.lemmas.List.{get_or-take}
 use Rattle.std.proofs.lemmas.List.Elements.{All-head}
 use Rattle.chaos_packet.specs.Packet.{PacketView}
 use Rattle.chaos_link.specs.Datagram.{wire}
-use Rattle.chaos_link.specs.Packets.{CarriesAll, SpellsAll}
+use Rattle.chaos_link.specs.Packets.{SpellsAll}
 use Rattle.chaos_sealed_socket.specs.Law.{HasTheirDestination}
 use Rattle.chaos_sealed_socket.specs.Socket.{destination_of}
 

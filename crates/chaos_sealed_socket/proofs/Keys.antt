@@ -129,7 +129,7 @@ some_key : (o : Option SealPeer) → is_some (option_map (λ (x : SealPeer). x.k
 some_key None = refl
 some_key (Some p) = refl
 
-same_keys : (v w : SealsView) → KeepsKeys v w → (host : ℕ) → has_key host w ≡ has_key host v
+pub same_keys : (v w : SealsView) → KeepsKeys v w → (host : ℕ) → has_key host w ≡ has_key host v
 same_keys v w kept host =
     sym (some_key (peer_of host w.peers)) ∙ ap is_some (kept.keys host) ∙ some_key (peer_of host v.peers)
 

@@ -3,3 +3,4 @@ pub mod Notice
 pub mod Beneath
 pub mod Calls
 pub mod Law
+pub mod Run

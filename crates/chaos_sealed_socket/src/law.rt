@@ -1,10 +1,11 @@
 //! The laws of a sealed socket.
 ghost use Rattle.chaos_sealed_socket.specs.Law.{AnswersShorter, HasTheirDestination, LinkSealsWhatItSends, SealsWhatItSends};
+ghost use Rattle.chaos_sealed_socket.specs.Run.{HandsUpOnce};
 
 use chaos_link::{DatagramSocket, PeerKeeper};
 
-/// The laws of a sealed socket and of a link over it, over the definitions alone.
-pub fn law_sealed<S: DatagramSocket, O, K: PeerKeeper>()
+/// The laws of what goes out of a sealed socket, and of a link over it, over the definitions alone.
+pub fn law_sent<S: DatagramSocket, O, K: PeerKeeper>()
     // Whatever a sealed socket is asked, the socket beneath was asked to send two kinds of datagrams
     // alone. A datagram in clear is for no host with a key. Any other is sealed for one host, with
     // the host's key and in the own session, and its payload is for this host or empty. The later of
@@ -18,4 +19,13 @@ pub fn law_sealed<S: DatagramSocket, O, K: PeerKeeper>()
     // Of a datagram that carries packets to one destination alone, such as a load, the destination
     // is theirs. So no such packet goes out in clear to a host with a key.
     ensures destination { HasTheirDestination }
+{}
+
+/// The law of what a sealed socket hands up in a run, over the definitions alone.
+pub fn law_received()
+    // What is handed up of a seal was sealed by its host for this run of the receiver, each datagram
+    // at most once. The sessions of a host never go back, and within a session each datagram lies
+    // fewer than 256 behind each one handed up before. What is handed up as it came carries no packet
+    // of a host with a key. The one premise is that without the key nobody makes a right tag.
+    ensures { HandsUpOnce }
 {}

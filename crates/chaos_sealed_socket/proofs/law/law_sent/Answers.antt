@@ -1,7 +1,7 @@
 use Rattle.chaos_sealed_socket.proofs.Answered.{answers_shorter}
 use Rattle.chaos_sealed_socket.proofs.Destination.{has_their_destination}
 use Rattle.chaos_sealed_socket.proofs.Guarded.{link_seals_what_it_sends, seals_what_it_sends}
-use Rattle.chaos_sealed_socket.proofs.law.law_sealed.Goals as goal
+use Rattle.chaos_sealed_socket.proofs.law.law_sent.Goals as goal
 
 pub returns-clause-socket : goal.returns-clause-socket
 returns-clause-socket g c = seals_what_it_sends g.row.O.Denot g.S.DatagramSocket.asked
