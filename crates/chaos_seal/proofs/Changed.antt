@@ -42,6 +42,7 @@ module _ (v : SealsView) (p : SealPeer) (h : Head) (known : peer_of h.from v.pee
   after_keeps = record {
     me = refl;
     session = refl;
+    closed = refl;
     sealing = λ a.
         elim (cases_eq h.from a) [
           | inl e ↦
@@ -113,6 +114,6 @@ others_same v w d answer address opens ne =
 pub keeps_sealing : (v w : SealsView) (d : List ℕ) (answer : Opened) → Opens v d answer w → KeepsSealing v w
 keeps_sealing v w d answer opens =
     elim (changes v w d answer opens) [
-      | inl same ↦ rw same (record { me = refl; session = refl; sealing = λ a. refl })
+      | inl same ↦ rw same (record { me = refl; session = refl; closed = refl; sealing = λ a. refl })
       | inr (p, h, known, from, timely, e) ↦ rw e (after_keeps v p h known)
     ]

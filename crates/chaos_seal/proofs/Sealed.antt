@@ -1,5 +1,5 @@
 -- What is sealed for a host, by its place in the table.
-use Rattle.std.proofs.Common.{◌≡◌, ◌↔◌, ℕ, ◌+◌, ◌<◌, ◌≤◌, List, length, refl, ap, ◌∙◌, sym, Option, Some, None, IfNone, IfSome, IsSome, Result, Ok, Err, IfErr, OnOk, get_or}
+use Rattle.std.proofs.Common.{◌≡◌, ◌↔◌, ℕ, Bool, ◌+◌, ◌<◌, ◌≤◌, List, length, refl, ap, ◌∙◌, sym, Option, Some, None, IfNone, IfSome, IsSome, Result, Ok, Err, IfErr, OnOk, get_or}
 use Rattle.std.specs.Prelude.{position, slice_get, slice_set}
 use Rattle.std.specs.List.{refill}
 use Rattle.chaos_seal.specs.Peers.{Keeps, SealsView, peer_of}
@@ -87,14 +87,14 @@ no_some (Some n) e is = cc
 
 -- ---- one host of the table changed in place
 
-module _ (v : SealsView) (me session : ℕ) (items now : List SealPeer) (place : ℕ) (r q : SealPeer)
-    (view : ◌≡◌ {A = SealsView} (record { me = me; session = session; peers = items }) v) (is : now ≡ items)
+module _ (v : SealsView) (me session : ℕ) (closed : Bool) (items now : List SealPeer) (place : ℕ) (r q : SealPeer)
+    (view : ◌≡◌ {A = SealsView} (record { me = me; session = session; closed = closed; peers = items }) v) (is : now ≡ items)
     (inside : place < length v.peers) (read : r ≡ get_or now place r) where
   abbrev p : SealPeer
   p = get_or now place r
 
   abbrev changed : SealsView
-  changed = record { me = me; session = session; peers = refill (length items) items (slice_set now place q) }
+  changed = record { me = me; session = session; closed = closed; peers = refill (length items) items (slice_set now place q) }
 
   pub there_now : slice_get v.peers place ≡ Some p
   there_now =
@@ -113,7 +113,7 @@ module _ (v : SealsView) (me session : ℕ) (items now : List SealPeer) (place :
         peer = p;
         there = there_now;
         sealed = rw head at sealed;
-        next = changed_view v me session items now place q (sent_once p) view is next;
+        next = changed_view v me session closed items now place q (sent_once p) view is next;
       }
 
   pub heard_at : (s c : ℕ) → (p.session ≤ s) × IsFresh (in_session p s).window c → q ≡ heard p s c → HearsAt v place s c changed
@@ -122,5 +122,5 @@ module _ (v : SealsView) (me session : ℕ) (items now : List SealPeer) (place :
     there = there_now;
     newest = timely.0;
     fresh = timely.1;
-    next = changed_view v me session items now place q (heard p s c) view is next;
+    next = changed_view v me session closed items now place q (heard p s c) view is next;
   }

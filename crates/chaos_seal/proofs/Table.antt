@@ -62,17 +62,17 @@ seen address ps xs i p is same read =
     (at, at_place address ps i is ∙ at)
 
 -- the view once one host was changed in place
-pub changed_view : (v : SealsView) (me session : ℕ) (items now : List SealPeer) (i : ℕ) (q r : SealPeer)
-    → ◌≡◌ {A = SealsView} (record { me = me; session = session; peers = items }) v → now ≡ items → q ≡ r
+pub changed_view : (v : SealsView) (me session : ℕ) (closed : Bool) (items now : List SealPeer) (i : ℕ) (q r : SealPeer)
+    → ◌≡◌ {A = SealsView} (record { me = me; session = session; closed = closed; peers = items }) v → now ≡ items → q ≡ r
     → ◌≡◌ {A = SealsView}
-    (record { me = me; session = session; peers = refill (length items) items (slice_set now i q) })
+    (record { me = me; session = session; closed = closed; peers = refill (length items) items (slice_set now i q) })
     (record v { peers = slice_set v.peers i r })
-changed_view v me session items now i q r view is same =
+changed_view v me session closed items now i q r view is same =
     let s = slice_set now i q in
     let whole : refill (length items) items s ≡ s =
     take_at s (drop (length s) items) (length items) (length-set now i q ∙ ap length is) in
     let there : s ≡ slice_set items i r = ap₂ (λ l x. slice_set l i x) is same in
-    ap (λ l. record { me = me; session = session; peers = l }) (whole ∙ there)
+    ap (λ l. record { me = me; session = session; closed = closed; peers = l }) (whole ∙ there)
     ∙ ap (λ (u : SealsView). record u { peers = slice_set u.peers i r }) view
 
 -- whether a host is found, by its place
@@ -181,6 +181,7 @@ pub kept : (v : SealsView) (q p : SealPeer) → peer_of q.address v.peers ≡ So
 kept v q p known same = record {
   me = refl;
   session = refl;
+  closed = refl;
   heard = λ address.
       elim (cases_eq q.address address) [
         | inl e ↦
@@ -194,12 +195,4 @@ kept v q p known same = record {
 }
 
 pub kept_all : (v : SealsView) → Keeps v v
-kept_all v = record { me = refl; session = refl; heard = λ address. refl }
-
--- no host has a key where there are none
-pub no_keys : (v : SealsView) (address : ℕ) → length v.peers ≡ 0 → has_key address v ≡ false
-no_keys v address none = by v.peers none
-  where
-    by : (ps : List SealPeer) → length ps ≡ 0 → is_some (peer_of address ps) ≡ false
-    by [] e = refl
-    by (p ∷ ps) e = absurd (omega arith)
+kept_all v = record { me = refl; session = refl; closed = refl; heard = λ address. refl }

@@ -32,8 +32,8 @@ pub enum SealFault {
     /// The payload has a packet of another source than the sender.
     #[error("a packet of another source under seal")]
     ForeignPacket,
-    /// A datagram without a seal has a packet whose source has a key.
-    #[error("a packet without a seal, of a host that has a key")]
+    /// A datagram without a seal has a packet whose source has a key, or the receiver is closed.
+    #[error("a packet without a seal")]
     Unsealed,
 }
 

@@ -21,7 +21,8 @@
 //! run of the receiver, each datagram at most once. The sessions of a host never go back, and within
 //! a session each datagram lies fewer than 256 behind each one handed up before
 //! ([`law_handed_up`]). The one premise is that without the key nobody makes a right tag. A datagram
-//! without a seal is handed up only if no packet in it comes from a host that has a key.
+//! without a seal is handed up only if no packet in it comes from a host that has a key. A host that
+//! is closed ([`Seals::close`]) hears no packet without a seal.
 //!
 //! **What isn't promised.** A seal hides nothing: whoever sees a datagram can read it. Whoever can
 //! stop datagrams on the way can stop these too. A host whose clock went back between two runs is

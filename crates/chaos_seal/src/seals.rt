@@ -1,12 +1,12 @@
 //! What a host seals and opens with.
-ghost use Rattle.std.specs.Prelude.{◌≡◌, ◌≢◌, ◌↔◌, ◌+◌, ◌≤◌, ◌<◌, ◌==◌, ◌++◌, ◌∷◌, [], ℕ, List, false, length, position, take, All, IfErr, IfNone, IfOk, IfSome, IsErrOf, IsNone, IsSome, IsTrue, OnErr, OnOk, Some, None};
+ghost use Rattle.std.specs.Prelude.{◌≡◌, ◌≢◌, ◌↔◌, ◌+◌, ◌≤◌, ◌<◌, ◌==◌, ◌++◌, ◌∷◌, [], ℕ, List, false, length, position, take, All, IfErr, IfNone, IfOk, IfSome, IsErrOf, IsNone, IsSome, IsTrue, OnErr, OnOk, Some, None, true};
 ghost use Rattle.chaos_link.specs.declared.limits.TheConstants.{LINK_ROOM, MAX_PEERS};
 ghost use Rattle.chaos_seal.specs.declared.fault.SealFault.{SealFault};
 ghost use Rattle.chaos_seal.specs.declared.form.Head.{Head};
 ghost use Rattle.chaos_seal.specs.declared.limits.TheConstants.{MAX_PAYLOAD, SEAL_BYTES};
 ghost use Rattle.chaos_seal.specs.declared.peer.SealPeer.{SealPeer};
 ghost use Rattle.chaos_seal.specs.Opening.{Answers, AnswersPlain, Comes, IsSealed, Opens, Refuses, from_in};
-ghost use Rattle.chaos_seal.specs.Peers.{Keeps, KeepsSealing, has_key, new_peer, peer_of, unheard_of};
+ghost use Rattle.chaos_seal.specs.Peers.{Keeps, KeepsSealing, has_key, is_empty, is_heard_in_clear, new_peer, peer_of, unheard_of};
 ghost use Rattle.chaos_seal.specs.Places.{CanSealAt, ComesAt, Gives, Greets, HearsAt, LateAt, SealsAt};
 ghost use Rattle.chaos_seal.specs.Seal.{payload_of, sealed_form};
 ghost use Rattle.chaos_seal.specs.Sending.{CanSeal, SealsFor, newest, next_head};
@@ -28,6 +28,8 @@ use std::marker::Model;
 pub struct Seals {
     me: u16,
     session: u64,
+    /// Whether nobody is heard in clear.
+    is_closed: bool,
     peers: ArrayVec<SealPeer, MAX_PEERS>,
 }
 
@@ -39,6 +41,7 @@ impl Model for Seals {
     ghost view = { λ seals. record {
       me = seals.me;
       session = seals.session;
+      closed = seals.is_closed;
       peers = seals.peers.items;
     } };
 }
@@ -47,14 +50,23 @@ impl Seals {
     /// A host with this address, in this session, and no keys. A later run of the host needs a
     /// greater session.
     pub fn new(me: u16, session: u64) -> Self
-        // No host has a key yet.
-        ensures { result ≡ record { me = me; session = session; peers = [] } }
+        // No host has a key yet, and all are heard in clear.
+        ensures { result ≡ record { me = me; session = session; closed = false; peers = [] } }
     {
         Seals {
             me,
             session,
+            is_closed: false,
             peers: ArrayVec::new(),
         }
+    }
+
+    /// Hears nobody in clear from now on: whoever has no key isn't heard at all.
+    pub fn close(&mut self)
+        // Nothing else changes.
+        ensures { self.new ≡ record self.old { closed = true } }
+    {
+        self.is_closed = true;
     }
 
     /// Adds the key that this host and another one have.
@@ -92,12 +104,12 @@ impl Seals {
         self.place_of(address).is_some()
     }
 
-    /// Whether no host has a key.
+    /// Whether there is nothing to seal or to refuse: no host has a key, and all are heard in clear.
     pub fn is_empty(&self) -> bool
-        // The answer is true exactly where no key was added.
-        ensures { IsTrue result ↔ (self.now.peers ≡ []) }
+        // The answer is true exactly where no key was added and this host isn't closed.
+        ensures { result ≡ is_empty self.now }
     {
-        self.peers.is_empty()
+        !self.is_closed && self.peers.is_empty()
     }
 
     /// How many datagrams were sealed for a host of which nothing was opened yet. The answer is
@@ -259,21 +271,28 @@ impl Seals {
         }
     }
 
-    /// Whether no packet that the bytes carry comes from a host that has a key.
+    /// Whether each packet that the bytes carry comes from a host that is heard in clear.
     fn is_clear(&self, bytes: &[u8]) -> bool
         ensures { IsTrue result ↔ IsClear self.now bytes.now }
     {
-        if self.peers.is_empty() {
-            return true;
-        }
-        self.knows_none(sources(bytes).as_slice())
+        self.hears_all(sources(bytes).as_slice())
     }
 
-    /// Whether none of the sources has a key.
-    fn knows_none(&self, sources: &[u16]) -> bool
-        ensures { IsTrue result ↔ All (λ source. has_key source self.now ≡ false) sources.now }
+    /// Whether all of the sources are heard in clear.
+    fn hears_all(&self, sources: &[u16]) -> bool
+        ensures { IsTrue result
+            ↔ All (λ source. is_heard_in_clear source self.now ≡ true) sources.now }
     {
-        sources.iter().all(|source| !self.has_key(*source))
+        sources
+            .iter()
+            .all(|source| self.is_heard_in_clear(*source))
+    }
+
+    /// Whether a host is heard in clear.
+    fn is_heard_in_clear(&self, source: u16) -> bool
+        ensures { result ≡ is_heard_in_clear source self.now }
+    {
+        !self.is_closed && !self.has_key(source)
     }
 
     /// The place of the host that sealed a datagram for this one, and the datagram's numbers.

@@ -25,7 +25,7 @@ use Rattle.chaos_seal.proofs.Table.{its_address, kept, kept_all}
 use Rattle.chaos_sealed_socket.specs.Law.{KeepsKeys}
 use Rattle.chaos_sealed_socket.specs.Run.{Call, HandsUpOnce, Makes, Opening, Sending, came_in, handed_up, passed_up}
 use Rattle.chaos_sealed_socket.specs.Socket.{Greets, Replies, Sealing, SendsAgain, SendsFor, SendsSealed, Turn, quiet, sealed_host}
-use Rattle.chaos_sealed_socket.proofs.Keys.{keeps_all, keeps_both, opened_keeps, same_keys, sealed_keeps}
+use Rattle.chaos_sealed_socket.proofs.Keys.{keeps_all, keeps_both, opened_keeps, same_in_clear, sealed_keeps}
 
 -- ---- what sealing leaves
 
@@ -43,6 +43,7 @@ leaves_both u v w one two = record {
   heard = record {
     me = two.heard.me ∙ one.heard.me;
     session = two.heard.session ∙ one.heard.session;
+    closed = two.heard.closed ∙ one.heard.closed;
     heard = λ address. two.heard.heard address ∙ one.heard.heard address;
   };
   keys = keeps_both u v w one.keys two.keys;
@@ -200,7 +201,7 @@ leads s (Opening from came answer ∷ calls) (seals, turn, opens, replies, makes
 
 same_clear : (v w : SealsView) (d : List ℕ) → KeepsKeys v w → IsClear w d → IsClear v d
 same_clear v w d keeps clear = λ packets carried i packet inside.
-    sym (same_keys v w keeps _) ∙ clear packets carried i packet inside
+    sym (same_in_clear v w keeps _) ∙ clear packets carried i packet inside
 
 clear_of : (v w : SealsView) (d : List ℕ) → Opens v d opened.Plain w → IsClear v d
 clear_of v w d (inl (other, inl plain, same)) = plain.1

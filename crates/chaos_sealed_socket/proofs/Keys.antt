@@ -1,9 +1,9 @@
 -- The keys stay, and no counter sinks.
-use Rattle.std.proofs.Common.{◌≡◌, ℕ, ◌+◌, ◌≤◌, Bool, true, false, if◌then◌else◌, nat_lt, List, Option, Some, None, is_some, option_map, refl, arith, ap, sym, subst, ◌∙◌, inl, inr}
+use Rattle.std.proofs.Common.{◌≡◌, ℕ, ◌+◌, ◌≤◌, Bool, true, false, if◌then◌else◌, not, ◌&&◌, nat_lt, List, Option, Some, None, is_some, option_map, refl, arith, ap, ap₂, sym, subst, ◌∙◌, inl, inr}
 use Rattle.std.proofs.lemmas.Bool.{cases_eq}
 use Rattle.chaos_seal.specs.Law.{key_of}
 use Rattle.chaos_seal.specs.Opening.{Answers, Comes, Declines, Opens, after, heard}
-use Rattle.chaos_seal.specs.Peers.{SealsView, has_key, peer_of, with_peer}
+use Rattle.chaos_seal.specs.Peers.{SealsView, has_key, is_heard_in_clear, peer_of, with_peer}
 use Rattle.chaos_seal.specs.Sending.{sent_once}
 use Rattle.chaos_seal.specs.Window.{nothing_heard}
 use Rattle.chaos_seal.specs.declared.form.Head.{Head}
@@ -17,12 +17,13 @@ use Rattle.chaos_sealed_socket.specs.Law.{KeepsKeys, sent_by, sent_to}
 use Rattle.chaos_sealed_socket.specs.Socket.{sealed_host, with_key, destination_of}
 
 pub keeps_all : (v : SealsView) → KeepsKeys v v
-keeps_all v = record { me = refl; session = refl; keys = λ host. refl; counters = λ host. omega arith }
+keeps_all v = record { me = refl; session = refl; closed = refl; keys = λ host. refl; counters = λ host. omega arith }
 
 pub keeps_both : (u v w : SealsView) → KeepsKeys u v → KeepsKeys v w → KeepsKeys u w
 keeps_both u v w one two = record {
   me = two.me ∙ one.me;
   session = two.session ∙ one.session;
+  closed = two.closed ∙ one.closed;
   keys = λ host. two.keys host ∙ one.keys host;
   counters = λ host. omega (arith, one.counters host, two.counters host);
 }
@@ -40,6 +41,7 @@ module _ (v : SealsView) (p q : SealPeer) (known : peer_of q.address v.peers ≡
   peer_kept key counter = record {
     me = refl;
     session = refl;
+    closed = refl;
     keys = λ host.
         elim (cases_eq q.address host) [
           | inl e ↦
@@ -132,6 +134,9 @@ some_key (Some p) = refl
 pub same_keys : (v w : SealsView) → KeepsKeys v w → (host : ℕ) → has_key host w ≡ has_key host v
 same_keys v w kept host =
     sym (some_key (peer_of host w.peers)) ∙ ap is_some (kept.keys host) ∙ some_key (peer_of host v.peers)
+
+pub same_in_clear : (v w : SealsView) → KeepsKeys v w → (host : ℕ) → is_heard_in_clear host w ≡ is_heard_in_clear host v
+same_in_clear v w kept host = ap₂ (λ (c k : Bool). not c && not k) kept.closed (same_keys v w kept host)
 
 same_with : (v w : SealsView) → KeepsKeys v w → (o : Option ℕ) → with_key w o ≡ with_key v o
 same_with v w kept None = refl

@@ -1,5 +1,5 @@
 -- What is handed up.
-use Rattle.std.proofs.Common.{◌≡◌, ◌≢◌, ℕ, ◌≤◌, List, [], ◌∷◌, length, length-take-le, take, refl, ap, sym, ◌∙◌, arith, inl, inr}
+use Rattle.std.proofs.Common.{◌≡◌, ◌≢◌, ℕ, ◌≤◌, Bool, true, false, List, length, length-take-le, take, refl, ap, sym, ◌∙◌, arith, inl, inr}
 use Rattle.std.specs.declared.net.socket_addr.SocketAddr.{SocketAddr}
 use Rattle.chaos_link.specs.Udp.{SocketAsk}
 use Rattle.chaos_seal.specs.Opening.{AnswersPlain, Opens}
@@ -7,7 +7,6 @@ use Rattle.chaos_seal.specs.Peers.{SealsView}
 use Rattle.chaos_seal.specs.Seal.{payload_of}
 use Rattle.chaos_seal.specs.declared.opened.Opened.{Opened}
 use Rattle.chaos_seal.specs.declared.opened.Opened.TheVariants as opened
-use Rattle.chaos_seal.specs.declared.peer.SealPeer.{SealPeer}
 use Rattle.chaos_seal.proofs.Parts.{long, payload_is}
 use Rattle.chaos_sealed_socket.specs.Calls.{HandsOn, OpensOver, count_of, handed_for}
 use Rattle.chaos_sealed_socket.specs.Notice.{HearsNotice}
@@ -56,13 +55,13 @@ handed_bytes before now count (opened.Refused fault) payload other = refl
 -- ---- with a key, and without
 
 module _ {S O : Type 0} (asked : S → S → List SocketAsk → Type 0) (hears : HearsNotice O) (old : SealedView S O) where
-  pub without_key : (peers : List SealPeer) (beneath : S) (buffer : List ℕ) (count : ℕ) (from : SocketAddr) → peers ≡ []
-      → HandsOn asked hears peers old (record { socket = beneath; sealing = old.sealing; observer = old.observer }) beneath buffer count from
-  without_key [] beneath buffer count from none = refl
-  without_key (p ∷ peers) beneath buffer count from none = absurd (cc)
+  pub without_key : (empty : Bool) (beneath : S) (buffer : List ℕ) (count : ℕ) (from : SocketAddr) → empty ≡ true
+      → HandsOn asked hears empty old (record { socket = beneath; sealing = old.sealing; observer = old.observer }) beneath buffer count from
+  without_key true beneath buffer count from none = refl
+  without_key false beneath buffer count from none = absurd (cc)
 
-  pub with_some_key : (peers : List SealPeer) (new : SealedView S O) (beneath : S) (buffer : List ℕ) (count : ℕ) (from : SocketAddr)
-      → (peers ≡ [] → ⊥) → OpensOver asked hears old new beneath buffer count from
-      → HandsOn asked hears peers old new beneath buffer count from
-  with_some_key [] new beneath buffer count from some is = absurd (some refl)
-  with_some_key (p ∷ peers) new beneath buffer count from some is = is
+  pub with_some_key : (empty : Bool) (new : SealedView S O) (beneath : S) (buffer : List ℕ) (count : ℕ) (from : SocketAddr)
+      → empty ≡ false → OpensOver asked hears old new beneath buffer count from
+      → HandsOn asked hears empty old new beneath buffer count from
+  with_some_key true new beneath buffer count from some is = absurd (cc)
+  with_some_key false new beneath buffer count from some is = is

@@ -1,13 +1,12 @@
 -- What each call of a sealed socket does.
-use Rattle.std.specs.Prelude.{◌≡◌, ◌∷◌, [], ℕ, List, length, map, take, Option, None, Some, Result, Ok, Err}
+use Rattle.std.specs.Prelude.{◌≡◌, ◌∷◌, [], ℕ, Bool, true, false, List, length, map, take, Option, None, Some, Result, Ok, Err}
 use Rattle.std.specs.declared.io.Error.{Error}
 use Rattle.std.specs.declared.net.socket_addr.SocketAddr.{SocketAddr}
 use Rattle.chaos_link.specs.Link.{Asks}
 use Rattle.chaos_link.specs.Udp.{Outgoing, SocketAsk, SendTo, ReceiveOne}
 use Rattle.chaos_seal.specs.Opening.{Opens}
-use Rattle.chaos_seal.specs.Peers.{SealsView}
+use Rattle.chaos_seal.specs.Peers.{SealsView, is_empty}
 use Rattle.chaos_seal.specs.Seal.{payload_of}
-use Rattle.chaos_seal.specs.declared.peer.SealPeer.{SealPeer}
 use Rattle.chaos_seal.specs.declared.opened.Opened.{Opened}
 use Rattle.chaos_seal.specs.declared.opened.Opened.TheVariants as opening
 use Rattle.chaos_sealed_socket.specs.Notice.{HearsNotice, HearsOnce, notice_of, notice_of_sent}
@@ -73,12 +72,12 @@ pub record OpensOver {S O : Type 0} (asked : S → S → List SocketAsk → Type
   pub takes : TakesTurn asked (Replies opened from) (once_opened seals beneath old) new
   pub heard : HearsOnce hears old.observer (notice_of opened from) new.observer
 
--- What came from there, when the socket beneath was this. Where there is no key, all but the socket beneath stays; otherwise what
--- came is opened.
-abbrev pub HandsOn : {S O : Type 0} → (S → S → List SocketAsk → Type 0) → HearsNotice O → List SealPeer → SealedView S O
+-- What came from there, when the socket beneath was this. Where there is nothing to refuse, all but the socket beneath stays;
+-- otherwise what came is opened.
+abbrev pub HandsOn : {S O : Type 0} → (S → S → List SocketAsk → Type 0) → HearsNotice O → Bool → SealedView S O
     → SealedView S O → S → List ℕ → ℕ → SocketAddr → Type 0
-HandsOn asked hears [] old new beneath buffer count from = new ≡ record old { socket = beneath }
-HandsOn asked hears (_ ∷ _) old new beneath buffer count from = OpensOver asked hears old new beneath buffer count from
+HandsOn asked hears true old new beneath buffer count from = new ≡ record old { socket = beneath }
+HandsOn asked hears false old new beneath buffer count from = OpensOver asked hears old new beneath buffer count from
 
 -- The socket beneath was asked once to receive. Where that failed, all else stays.
 abbrev pub ReceivesOver : {S O : Type 0} → (S → S → List SocketAsk → Type 0) → (S → Option Error → Type 0)
@@ -87,4 +86,4 @@ ReceivesOver asked answered came hears old new buffer (Err error) =
     Asks (asked old.socket) (asked new.socket) (ReceiveOne ∷ []) × (new ≡ record old { socket = new.socket })
 ReceivesOver {S} asked answered came hears old new buffer (Ok datagram) =
     (beneath : S) × Asks (asked old.socket) (asked beneath) (ReceiveOne ∷ []) × answered beneath None × came beneath datagram.1
-    × HandsOn asked hears old.sealing.seals.peers old new beneath buffer datagram.0 datagram.1
+    × HandsOn asked hears (is_empty old.sealing.seals) old new beneath buffer datagram.0 datagram.1

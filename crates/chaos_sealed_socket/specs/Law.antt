@@ -77,10 +77,11 @@ pub record AreGuarded (v : SealsView) (datagrams : List Outgoing) : Type 0 where
 
 -- ---- The laws
 
--- The own address, the own session and each key stay, and no counter sinks.
+-- The own address, the own session, who is heard in clear and each key stay, and no counter sinks.
 pub record KeepsKeys (v w : SealsView) : Type 0 where
   pub me : w.me ≡ v.me
   pub session : w.session ≡ v.session
+  pub closed : w.closed ≡ v.closed
   pub keys : (host : ℕ) → key_of host w ≡ key_of host v
   pub counters : (host : ℕ) → sent_to host v ≤ sent_to host w
 

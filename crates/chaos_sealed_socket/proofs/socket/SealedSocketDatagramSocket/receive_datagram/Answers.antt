@@ -48,9 +48,9 @@ returns-clause-receives g c =
       c.in_ok-count.ensures.asked,
       c.in_ok-count.ensures.answered,
       c.in_ok-count.ensures.came,
-      with_some_key g.S.DatagramSocket.asked g.O.SealObserver.hears _ c.self.inside.seals.peers c.hand_up.new.self
+      with_some_key g.S.DatagramSocket.asked g.O.SealObserver.hears _ _ c.hand_up.new.self
           c.receive_datagram.new.self c.open-opened.new.buffer c.hand_up.result c.in_ok-count.from
-          (λ none. let yes = c.is_empty.ensures.1 none in cc)
+          (sym c.is_empty.ensures ∙ c.if-is_empty.false)
           (record {
             came = take c.in_ok-count.count c.receive_datagram.new.buffer;
             opened = c.open-opened.result;
