@@ -1,0 +1,2 @@
+pub mod SealedNet
+pub mod SealedHello

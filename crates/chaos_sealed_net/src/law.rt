@@ -1,0 +1,21 @@
+//! The laws of two hosts whose datagrams are sealed. A law is a function that does nothing. Its
+//! contract states the law, and a caller learns the law by the call.
+ghost use Rattle.chaos_sealed_net.specs.SealedHello.{SomethingSealedIsRead};
+ghost use Rattle.chaos_sealed_net.specs.SealedNet.{SealedNetworkLaw, SealedRunsAreRuns};
+
+/// The law of freshness.
+pub fn law_fresh()
+    // Every run of the sealed machine from two new hosts is a run of the network. So each packet
+    // that comes is fresh: neither end has written 32,640 items since the packet was sent.
+    ensures runs { SealedRunsAreRuns }
+    // The law of the network holds after every such run, for each connection of either host: what
+    // its user has read is a prefix of what the user of its peer has written.
+    ensures law { SealedNetworkLaw }
+{}
+
+/// The law that the law of freshness isn't empty.
+pub fn law_sealed_hello()
+    // Eleven events of the sealed machine lead from two new hosts to a net in which a request and
+    // data were read.
+    ensures { SomethingSealedIsRead }
+{}
