@@ -8,6 +8,9 @@
 --   Earlier   what was written since a packet was sent, by the counters of datagrams
 --   Fresh     each packet that comes is fresh: law_fresh
 --   Example   eleven events, by computation: law_sealed_hello
+--   Turning   a turn of a node, as events of the sealed machine
+--   Posting   the datagrams that a node posted, as datagrams that were sealed
+--   Nodes     the net behind two nodes: law_sealed_nodes
 pub mod Lists
 pub mod Deeds
 pub mod Unread
@@ -16,3 +19,6 @@ pub mod Mixed
 pub mod Earlier
 pub mod Fresh
 pub mod Example
+pub mod Turning
+pub mod Posting
+pub mod Nodes

@@ -1,6 +1,7 @@
 -- Places in lists of packets and datagrams.
 use Rattle.std.proofs.Common.{◌≡◌, ℕ, zero, suc, ◌<◌, ◌≤◌, List, [], ◌∷◌, ◌++◌, length, Bool, true, false, nat_lt, Some, refl, sym, subst, inl, inr, ◌⊎◌, ⊎_elim, arith}
 use Rattle.std.specs.Prelude.{slice_get}
+use Rattle.std.specs.List.{AllByRecursion}
 use Rattle.std.proofs.lemmas.Bool.Decides.{nat_tests}
 use Rattle.chaos_net.proofs.Lists.{some_eq}
 use Rattle.chaos_sealed_net.specs.SealedNet.{Datagram}
@@ -47,6 +48,12 @@ module _ {X : Type 0} where
       let rest = get_last xs y k x (omega (arith, far)) h in
       let place = rest.1 in
       (rest.0, omega (arith, place))
+
+-- what holds at each place holds of all
+pub all_by_get : {X : Type 0} (P : X → Type 0) (xs : List X)
+    → ((k : ℕ) (x : X) → slice_get xs k ≡ Some x → P x) → AllByRecursion P xs
+all_by_get P [] h = tt
+all_by_get P (x ∷ xs) h = (h 0 x refl, all_by_get P xs (λ k y at. h (suc k) y at))
 
 -- ---- datagrams
 

@@ -1,2 +1,3 @@
 pub mod SealedNet
 pub mod SealedHello
+pub mod SealedNodes

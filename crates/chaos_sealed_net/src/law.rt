@@ -2,6 +2,7 @@
 //! contract states the law, and a caller learns the law by the call.
 ghost use Rattle.chaos_sealed_net.specs.SealedHello.{SomethingSealedIsRead};
 ghost use Rattle.chaos_sealed_net.specs.SealedNet.{SealedNetworkLaw, SealedRunsAreRuns};
+ghost use Rattle.chaos_sealed_net.specs.SealedNodes.{SealedNodesStay};
 
 /// The law of freshness.
 pub fn law_fresh()
@@ -18,4 +19,12 @@ pub fn law_sealed_hello()
     // Eleven events of the sealed machine lead from two new hosts to a net in which a request and
     // data were read.
     ensures { SomethingSealedIsRead }
+{}
+
+/// The law of two nodes over sealed links. A datagram may be lost, late, repeated or out of order.
+pub fn law_sealed_nodes()
+    // There is a net behind two new nodes, and after any number of whole turns, halves and owners'
+    // calls a run leads to a net behind the nodes. A datagram of the other node comes only while it
+    // is fewer than 256 behind the newest that came, and each of its packets must be near.
+    ensures { SealedNodesStay }
 {}

@@ -2,7 +2,7 @@
 //! the law of the network: the premise on the age of packets holds by itself, but for its part on
 //! connections.
 //!
-//! The law has these premises:
+//! The laws have these premises:
 //!
 //! - A host takes a datagram only if the other host sealed that datagram, and its counter is fewer
 //!   than 256 below the greatest counter that was heard. Otherwise an old packet is taken for a new
@@ -12,9 +12,10 @@
 //! - Fewer than 256 connections have passed in each slot that a packet names, if the packet carries
 //!   an acknowledgement. Otherwise the packet is taken for a packet of a later connection with the
 //!   same index. No counter prevents that.
-//! - Both hosts are new at the start, and neither starts again.
+//! - Both hosts are new at the start, and neither starts again. Otherwise a packet number or an
+//!   index could be in use before the first step.
 #![tactic(auto)]
 
 mod law;
 
-pub use law::{law_fresh, law_sealed_hello};
+pub use law::{law_fresh, law_sealed_hello, law_sealed_nodes};
