@@ -4,6 +4,8 @@ use Rattle.chaos_packet.specs.Outbox.{OutboxView}
 use Rattle.chaos_window.specs.declared.limits.TheConstants.{MAX_WINDOW}
 use Rattle.chaos_lab.specs.declared.lab_end.LabEnd.{LabEnd}
 use Rattle.chaos_lab.specs.declared.both_ends.BothEnds.{BothEnds}
+use Rattle.chaos_lab.specs.declared.side.Side.{Side}
+use Rattle.chaos_lab.specs.declared.side.Side.TheVariants.{A, B}
 use Rattle.chaos_lab.specs.declared.copy_list.CopyList.{CopyList}
 use Rattle.chaos_lab.specs.declared.event.Event.{Event}
 use Rattle.chaos_lab.specs.declared.event.Event.TheVariants as event
@@ -24,10 +26,14 @@ pub record HasSpace (c : CopyList) : Type 0 where
   pub places : vec_len c.list + MAX_WINDOW ≤ vec_capacity c.list
   pub spares : MAX_WINDOW ≤ vec_len c.spares
 
--- so at both ends, and both windows fit the outbox
-pub record AreReady (e : BothEnds) (out : OutboxView) : Type 0 where
-  pub room_a : HasRoom e.a
-  pub room_b : HasRoom e.b
+-- so have the histories of this end
+abbrev pub HasRoomAt : Side → BothEnds → Type 0
+HasRoomAt A ends = HasRoom ends.a
+HasRoomAt B ends = HasRoom ends.b
+
+-- so have those of the end of a call, and both windows fit the outbox
+pub record AreReady (x : Side) (e : BothEnds) (out : OutboxView) : Type 0 where
+  pub room : HasRoomAt x e
   pub window_a : e.a.conn.config.send_cap ≤ MAX_WINDOW
   pub window_b : e.b.conn.config.send_cap ≤ MAX_WINDOW
   pub empty : out.packets ≡ []

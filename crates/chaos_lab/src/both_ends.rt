@@ -1,7 +1,7 @@
 //! Both ends of the laboratory.
 ghost use Rattle.std.specs.Prelude.{◌≡◌, ◌≤◌, OnOk};
 ghost use Rattle.chaos_lab.specs.Calling.{call_of, told_of};
-ghost use Rattle.chaos_lab.specs.Inside.{end_view, happening_of, HasRoom, AreReady};
+ghost use Rattle.chaos_lab.specs.Inside.{end_view, happening_of, HasRoomAt, AreReady};
 ghost use Rattle.chaos_lab.specs.Makes.{MakesAt, read_at};
 
 use crate::event::{Event, StepDone};
@@ -20,14 +20,16 @@ pub(crate) struct BothEnds {
 }
 
 impl BothEnds {
-    /// Makes room for one more item in each list.
-    pub(crate) fn grow(&mut self) -> Result<(), AllocError>
+    /// Makes room for one more item in both lists of an end.
+    pub(crate) fn grow(&mut self, side: Side) -> Result<(), AllocError>
         ensures same { (end_view self.new.a ≡ end_view self.old.a)
             × (end_view self.new.b ≡ end_view self.old.b) }
-        ensures room { OnOk result (HasRoom self.new.a × HasRoom self.new.b) }
+        ensures room { OnOk result (HasRoomAt side self.new) }
     {
-        self.a.grow()?;
-        self.b.grow()
+        match side {
+            Side::A => self.a.grow(),
+            Side::B => self.b.grow(),
+        }
     }
 
     /// Makes the call of an event at one of them.
@@ -39,7 +41,7 @@ impl BothEnds {
         now: u64,
         out: &mut Outbox,
     ) -> Result<StepDone, LabFault>
-        requires ready { AreReady self.old out.old }
+        requires ready { AreReady target.side self.old out.old }
         ensures { MakesAt target.side (call_of (happening_of event.now) target.asks came.now now)
             self.old self.new out.old out.new
             (told_of (happening_of event.now) came.now (read_at target.side self.new) result) }

@@ -75,12 +75,29 @@ impl Data {
 ///
 /// # Errors
 /// No memory for that many rooms.
+// Most calls find the rooms there, so that test alone is inlined.
+#[inline(always)]
 pub fn set_aside(
     alloc: Global,
     spares: &mut Vec<Box<Item, Global>>,
     count: usize,
 ) -> Result<(), AllocError>
     // So many rooms are set aside, where there is memory.
+    ensures { OnOk result (count ≤ vec_len spares.new) }
+{
+    if spares.len() >= count {
+        return Ok(());
+    }
+    set_more_aside(alloc, spares, count)
+}
+
+/// Sets aside the rooms that are missing.
+#[inline(never)]
+fn set_more_aside(
+    alloc: Global,
+    spares: &mut Vec<Box<Item, Global>>,
+    count: usize,
+) -> Result<(), AllocError>
     ensures { OnOk result (count ≤ vec_len spares.new) }
 {
     for place in spares.len()..count {

@@ -95,6 +95,8 @@ impl LabEnd {
     }
 
     /// Makes room for one more item in both lists.
+    // inlined, since most calls are four tests
+    #[inline(always)]
     pub(crate) fn grow(&mut self) -> Result<(), AllocError>
         ensures same { end_view self.new ≡ end_view self.old }
         ensures room { OnOk result (HasRoom self.new) }

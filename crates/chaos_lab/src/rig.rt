@@ -8,7 +8,7 @@ ghost use Rattle.chaos_conn.specs.Stored.{stored_packets, stored_bytes};
 ghost use Rattle.chaos_lab.specs.Laboratory.{Happens, happen, check, lab_end, start_for, after_all, refusal, StopsWithin, asked_after, clock_after, is_fresh, is_request, stamp};
 ghost use Rattle.chaos_lab.specs.Laboratory.Happening.{DeliverCopy};
 ghost use Rattle.chaos_lab.specs.History.{HasPlace};
-ghost use Rattle.chaos_lab.specs.Inside.{end_view, happening_of, HasRoom, HasSpace};
+ghost use Rattle.chaos_lab.specs.Inside.{end_view, happening_of, HasRoomAt, HasSpace};
 ghost use Rattle.chaos_lab.specs.Told.{told_at, packet_at, items_at};
 ghost use Rattle.chaos_lab.specs.Calling.{call_of, IsCall};
 ghost use Rattle.chaos_packet.specs.Packet.{PacketView};
@@ -194,7 +194,7 @@ impl Rig {
             (told_at self.old self.new (happening_of event.now) result) }
     {
         let target = self.target_of(event, place)?;
-        grow(&mut self.ends, &mut self.copies)?;
+        grow(&mut self.ends, target.side, &mut self.copies)?;
         let done = self
             .ends
             .call(target, event, place, self.clock, &mut self.out)?;
@@ -279,7 +279,7 @@ impl Rig {
             × (self.new ≡ after_all self.old (turn_events turn))) }
         ensures err { OnErr result ((self.new ≡ self.old) × (user.new ≡ user.old)) }
     {
-        if grow(&mut self.ends, &mut self.copies).is_err() {
+        if grow(&mut self.ends, Side::B, &mut self.copies).is_err() {
             return Err(AllocError);
         }
         let turned = self
@@ -295,15 +295,17 @@ impl Rig {
     }
 }
 
-/// Makes room for all that one call may add.
-fn grow(ends: &mut BothEnds, copies: &mut CopyList) -> Result<(), LabFault>
+/// Makes room for all that one call at an end may add.
+// inlined for the same reason as `LabEnd::grow`
+#[inline(always)]
+fn grow(ends: &mut BothEnds, side: Side, copies: &mut CopyList) -> Result<(), LabFault>
     ensures ends { (end_view ends.new.a ≡ end_view ends.old.a)
         × (end_view ends.new.b ≡ end_view ends.old.b) }
     ensures copies { copies.new.list.items ≡ copies.old.list.items }
-    ensures room { OnOk result (HasRoom ends.new.a × HasRoom ends.new.b × HasSpace copies.new) }
+    ensures room { OnOk result (HasRoomAt side ends.new × HasSpace copies.new) }
     ensures err { IfErr result (λ fault. fault ≡ LabFault.NoMemory) }
 {
-    if ends.grow().is_err() || copies.grow().is_err() {
+    if ends.grow(side).is_err() || copies.grow().is_err() {
         return Err(LabFault::NoMemory);
     }
     Ok(())
