@@ -68,6 +68,19 @@ pub put_behind : (held : Option (List ℕ)) (old new text : List ℕ) → new �
     → Appends (written_of held old) (written_of held new) text
 put_behind held old new text more = append_known-grown (written_of held old) held old new text (Keeps-refl _) more
 
+-- so does the report of an empty line behind other reports
+pub empty_behind : (held : Option (List ℕ)) (old new : List ℕ) (format : Format) (view : View) (reports : ℕ) (raw text : List ℕ)
+    → 0 < reports → text ≡ strip_last 13 raw → eqb (length text) 0 ≡ true
+    → new ≡ old ++ (gap false ++ entry_text view (entry_of_datagram format []))
+    → Appends (written_of held old) (written_of held new) (gap (eqb reports 0) ++ line_report format view raw)
+unfolding entry_of
+empty_behind held old new format view reports raw text some is none more =
+    let entry : entry_of format raw ≡ entry_of_datagram format [] = ap (entry_of_text format) (sym is) ∙ empty_text format text none in
+    let behind : eqb reports 0 ≡ false = grind (arith, nat_tests) in
+    put_behind held old new _
+    (more ∙ ap (λ b. old ++ (gap b ++ entry_text view (entry_of_datagram format []))) (sym behind)
+    ∙ ap (λ e. old ++ (gap (eqb reports 0) ++ entry_text view e)) (sym entry))
+
 -- ---- one line more
 
 is_more : (n : ℕ) → eqb (suc n) 0 ≡ false

@@ -32,7 +32,7 @@ pub fn put_chudp(out: &mut WriteBuffer, view: View, bytes: &[u8]) -> Result<bool
 }
 
 /// Writes how a fault of a CHUDP datagram is reported.
-pub fn put_chudp_fault(out: &mut WriteBuffer, fault: ChudpFault) -> Result<(), NotWritten>
+fn put_chudp_fault(out: &mut WriteBuffer, fault: ChudpFault) -> Result<(), NotWritten>
     ensures { OnOk result (out.new ≡ out.old ++ line (chudp_fault_text fault)) }
 {
     match fault {

@@ -1,19 +1,18 @@
 //! The report of a line.
-ghost use Rattle.std.specs.Prelude.{◌≡◌, ◌≤◌, ◌++◌, [], length, OnOk, IfOk, Some};
+ghost use Rattle.std.specs.Prelude.{◌≡◌, ◌≤◌, ◌++◌, [], false, length, OnOk, IfOk, Some};
 ghost use Rattle.std.specs.Io.KnownBytes.{Appends};
 ghost use Rattle.chaosd_io.specs.Buffer.{written_of};
 ghost use Rattle.chaos_link.specs.Datagram.{fault_of};
-ghost use Rattle.chaosd_show.specs.Entry.{fault_text, packet_fault_text, entry_of, entry_of_datagram, entry_of_text, entry_text, is_refusal};
+ghost use Rattle.chaosd_show.specs.Entry.{fault_text, packet_fault_text, entry_of, entry_of_datagram, entry_text, is_refusal};
 ghost use Rattle.chaosd_io.specs.Texts.{line};
-ghost use Rattle.chaosd_show.specs.Show.{line_report};
+ghost use Rattle.chaosd_show.specs.Show.{gap, line_report};
 
-use crate::chudp::{put_chudp, put_chudp_fault};
+use crate::chudp::put_chudp;
 use crate::format::Format;
 use crate::hex::{MOST_BYTES, read_hex};
 use crate::limits::SHOW_LINE_LIMIT;
 use crate::report::{put_packet, put_several};
 use crate::view::View;
-use chaos_chudp::ChudpFault;
 use chaos_link::{LinkFault, from_datagram, open_datagram};
 use chaos_packet::PacketFault;
 use chaosd_io::{NotWritten, WriteBuffer, put_decimal, put_line, without_return};
@@ -21,7 +20,7 @@ use std::io::Write;
 
 /// Writes the report of a line, and says whether it is a refusal. `datagram` holds the line's bytes
 /// meanwhile. What waits is handed on where a packet of several might not fit behind it.
-#[tactic(auto, using(crate::proofs::Steps::put_behind, crate::proofs::Steps::empty_text, crate::proofs::Steps::empty_refused), unfolding(crate::specs::Entry::entry_of, crate::specs::Entry::entry_text))]
+#[tactic(auto, using(crate::proofs::Steps::put_behind), unfolding(crate::specs::Entry::entry_of, crate::specs::Entry::entry_text))]
 pub fn put_entry<W: Write>(
     out: &mut WriteBuffer,
     writer: &mut W,
@@ -35,44 +34,7 @@ pub fn put_entry<W: Write>(
         (written_of (W.contents writer.new) out.new) (line_report format view raw.now)) }
     ensures refused { IfOk result (λ refused. refused ≡ is_refusal (entry_of format raw.now)) }
 {
-    let line = without_return(raw);
-    // An empty line is the empty datagram: no place is made for a packet, as reading a datagram
-    // does.
-    if line.is_empty() {
-        put_empty(out, format)?;
-        return Ok(true);
-    }
-    put_text(out, writer, format, view, line, datagram)
-}
-
-/// Writes the report of the empty datagram, which is refused in either format.
-#[tactic(auto, unfolding(crate::specs::Entry::entry_text))]
-fn put_empty(out: &mut WriteBuffer, format: Format) -> Result<(), NotWritten>
-    ensures { (view : View) →
-        OnOk result (out.new ≡ out.old ++ entry_text view (entry_of_datagram format [])) }
-{
-    match format {
-        Format::Own => put_fault(out, LinkFault::Short),
-        Format::Chudp => put_chudp_fault(out, ChudpFault::Short),
-    }
-}
-
-/// Writes the report of a line without a carriage return, and says whether it is a refusal.
-#[tactic(auto, unfolding(crate::specs::Entry::entry_text))]
-fn put_text<W: Write>(
-    out: &mut WriteBuffer,
-    writer: &mut W,
-    format: Format,
-    view: View,
-    text: &[u8],
-    datagram: &mut [u8; MOST_BYTES],
-) -> Result<bool, NotWritten>
-    ensures text { OnOk result
-        (Appends (written_of (W.contents writer.old) out.old)
-        (written_of (W.contents writer.new) out.new) (entry_text view (entry_of_text format text.now))) }
-    ensures refused { IfOk result
-        (λ refused. refused ≡ is_refusal (entry_of_text format text.now)) }
-{
+    let text = without_return(raw);
     if text.len() > SHOW_LINE_LIMIT {
         out.put(b"fault 0 Line\n")?;
         return Ok(true);
@@ -85,6 +47,19 @@ fn put_text<W: Write>(
     match format {
         Format::Own => put_datagram(out, writer, view, bytes),
         Format::Chudp => put_chudp(out, view, bytes),
+    }
+}
+
+/// Writes an empty line and the report of the empty datagram in one piece. The empty datagram is
+/// refused in either format.
+#[tactic(auto, unfolding(crate::specs::Entry::entry_text))]
+pub fn put_gap_and_empty(out: &mut WriteBuffer, format: Format) -> Result<(), NotWritten>
+    ensures { (view : View) → OnOk result
+        (out.new ≡ out.old ++ (gap false ++ entry_text view (entry_of_datagram format []))) }
+{
+    match format {
+        Format::Own => out.put(b"\nfault 1 Short\n"),
+        Format::Chudp => out.put(b"\nfault 2 Short\n"),
     }
 }
 
