@@ -107,6 +107,8 @@ impl LabEnd {
 
     /// Makes the call of an event, and keeps what it wrote and what its user read. A copy's packet
     /// has come to this place, as the request or as a packet of the connection.
+    // inlined at both ends, since a call of it and its answer take as long as what it does
+    #[inline(always)]
     pub(crate) fn call(
         &mut self,
         event: &Event<'_>,

@@ -348,6 +348,7 @@ fn noted(asked: bool, now: u64, event: &Event<'_>, asks: bool) -> (bool, u64)
 }
 
 /// Takes what was put out into the copies.
+#[inline(always)]
 fn post(copies: &mut CopyList, out: &mut Outbox, side: Side, ends: &BothEnds)
     requires few { length out.old.packets ≤ MAX_WINDOW }
     requires space { HasSpace copies.old }

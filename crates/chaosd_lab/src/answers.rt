@@ -1,13 +1,16 @@
 //! What came of an event, as text.
-ghost use Rattle.std.specs.Prelude.{◌≡◌, ◌++◌, drop, OnOk};
+ghost use Rattle.std.specs.Prelude.{◌≡◌, ◌++◌, ◌∷◌, [], codes, drop, OnOk};
+ghost use Rattle.std.specs.Fmt.{decimal};
 ghost use Rattle.chaos_packet.specs.Packet.{PacketView};
+ghost use Rattle.chaos_conn.specs.Disposition.{with_packet};
 ghost use Rattle.chaos_lab.specs.History.{item};
 ghost use Rattle.chaos_lab.specs.Told.{given_by, last_of, told};
-ghost use Rattle.chaosd_lab.specs.Answers.{named_line, numbered_line, item_line, read_text, spaced_text, ticked_text, stepped_text, refusal_text, answer_text, op_name, numbers_text, copy_line, copies_text, stored_line};
+ghost use Rattle.chaosd_lab.specs.Names.{side_name, delivered_name};
+ghost use Rattle.chaosd_lab.specs.Answers.{named_line, numbered_line, item_line, read_text, spaced_text, ticked_text, stepped_text, refusal_text, answer_text, op_name, copy_line, copies_text, stored_line};
 
-use crate::names::{conn_fault_name, delivered_name, disposition_name, side_name, state_name};
-use chaos_conn::{ReadDone, ReadEnd, Ticked};
-use chaos_lab::{KeptItem, LabFault, Stamped, StepDone, Stepped};
+use crate::names::{conn_fault_name, delivered_name, dropped_name, state_name};
+use chaos_conn::{Disposition, ReadDone, ReadEnd, Ticked};
+use chaos_lab::{KeptItem, LabFault, Side, Stamped, StepDone, Stepped};
 use chaos_packet::Opcode;
 use chaosd_io::{NotWritten, WriteBuffer, put_decimal, put_line, put_octal_three, put_text};
 
@@ -155,10 +158,31 @@ pub fn put_answer(
         Ok(StepDone::Closed) => put_line(out, "closed"),
         Ok(StepDone::Accepted(num)) => put_numbered(out, "accepted", usize::from(num.0)),
         Ok(StepDone::Requested) => put_line(out, "delivered Requested"),
-        Ok(StepDone::Delivered(disposition)) => {
-            put_named(out, "delivered", disposition_name(*disposition))
-        }
+        Ok(StepDone::Delivered(disposition)) => put_delivered(out, *disposition),
         Err(fault) => put_refusal(out, *fault),
+    }
+}
+
+/// Writes what became of a packet. Each line is a literal, and is stored in one piece.
+#[tactic(auto, unfolding(crate::specs::Answers::named_line))]
+fn put_delivered(out: &mut WriteBuffer, disposition: Disposition) -> Result<(), NotWritten>
+    ensures { (packet : PacketView) →
+        OnOk result (out.new
+        ≡ out.old ++ named_line (codes "delivered") (delivered_name (with_packet disposition packet))) }
+{
+    match disposition {
+        Disposition::Took => out.put(b"delivered Took\n"),
+        Disposition::Duplicate => out.put(b"delivered Duplicate\n"),
+        Disposition::Outside => out.put(b"delivered Outside\n"),
+        Disposition::Opened => out.put(b"delivered Opened\n"),
+        Disposition::Status => out.put(b"delivered Status\n"),
+        Disposition::Probed => out.put(b"delivered Probed\n"),
+        Disposition::Unc => out.put(b"delivered Unc\n"),
+        Disposition::Answered => out.put(b"delivered Answered\n"),
+        Disposition::Forwarded => out.put(b"delivered Forwarded\n"),
+        Disposition::Closed => out.put(b"delivered Closed\n"),
+        Disposition::Lost => out.put(b"delivered Lost\n"),
+        Disposition::Dropped(why) => put_named(out, "delivered", dropped_name(why)),
     }
 }
 
@@ -179,18 +203,39 @@ fn put_copy(out: &mut WriteBuffer, place: usize, copy: &Stamped) -> Result<(), N
 {
     out.put(b"copy ")?;
     put_decimal(out, place)?;
-    out.put(b" ")?;
-    out.put(side_name(copy.side).as_bytes())?;
-    out.put(b" ")?;
-    out.put(op_name(copy.packet.op()).as_bytes())?;
+    put_sender(out, copy.side)?;
+    put_op_and_num(out, copy.packet.op())?;
     put_pair(out, copy.packet.num().0, copy.packet.ack().0)
+}
+
+/// The side that sent a copy, between spaces.
+fn put_sender(out: &mut WriteBuffer, side: Side) -> Result<(), NotWritten>
+    ensures { OnOk result (out.new ≡ out.old ++ 32 ∷ side_name side ++ 32 ∷ []) }
+{
+    match side {
+        Side::A => out.put(b" a "),
+        Side::B => out.put(b" b "),
+    }
+}
+
+/// The name of an opcode, and the word behind it. All names have three letters, so what is written
+/// of them has a fixed length.
+fn put_op_and_num(out: &mut WriteBuffer, op: Opcode) -> Result<(), NotWritten>
+    ensures { OnOk result (out.new ≡ out.old ++ op_name op ++ codes " num ") }
+{
+    let name = op_name(op).as_bytes();
+    if let &[a, b, c] = name {
+        return out.put(&[a, b, c, b' ', b'n', b'u', b'm', b' ']);
+    }
+    out.put(name)?;
+    out.put(b" num ")
 }
 
 /// The number and the acknowledgement of a copy, and the end of its line.
 fn put_pair(out: &mut WriteBuffer, num: u16, ack: u16) -> Result<(), NotWritten>
-    ensures { OnOk result (out.new ≡ out.old ++ numbers_text num ack) }
+    ensures { OnOk result
+        (out.new ≡ out.old ++ decimal num ++ codes " ack " ++ decimal ack ++ 10 ∷ []) }
 {
-    out.put(b" num ")?;
     put_decimal(out, usize::from(num))?;
     out.put(b" ack ")?;
     put_decimal(out, usize::from(ack))?;

@@ -64,11 +64,13 @@ impl Stage for LabStage {
         if is_settle(line) {
             return settle(alloc, &mut self.lab, out, writer);
         }
-        let event = match event_of(line, &mut self.body) {
+        let parsed = event_of(line, &mut self.body);
+        // lent where it lies, since a moved event is read again in other pieces than it was written
+        let event = match &parsed {
             Ok(event) => event,
-            Err(wrong) => return Err(report.bad(wrong)),
+            Err(wrong) => return Err(report.bad(*wrong)),
         };
-        play_event(alloc, &mut self.lab, out, &event)
+        play_event(alloc, &mut self.lab, out, event)
     }
 
     fn end(&self, out: &mut WriteBuffer) -> Result<(), NotWritten> {

@@ -1,10 +1,8 @@
 //! Names of states, answers and faults.
 ghost use Rattle.std.specs.Prelude.{◌≡◌};
-ghost use Rattle.chaos_packet.specs.Packet.{PacketView};
-ghost use Rattle.chaos_conn.specs.Disposition.{with_packet};
 ghost use Rattle.chaosd_lab.specs.Names.{side_name, state_name, why_name, delivered_name, conn_fault_name};
 
-use chaos_conn::{ConnFault, Delivered, Disposition, State, Why};
+use chaos_conn::{ConnFault, Delivered, State, Why};
 use chaos_lab::Side;
 
 /// The name of a side in scripts and in what is printed.
@@ -55,27 +53,8 @@ pub fn delivered_name(delivered: &Delivered) -> &'static str
     }
 }
 
-/// The same name, of the small answer.
-pub fn disposition_name(disposition: Disposition) -> &'static str
-    ensures { (packet : PacketView) → result.now ≡ delivered_name (with_packet disposition packet) }
-{
-    match disposition {
-        Disposition::Took => "Took",
-        Disposition::Duplicate => "Duplicate",
-        Disposition::Outside => "Outside",
-        Disposition::Opened => "Opened",
-        Disposition::Status => "Status",
-        Disposition::Probed => "Probed",
-        Disposition::Unc => "Unc",
-        Disposition::Answered => "Answered",
-        Disposition::Forwarded => "Forwarded",
-        Disposition::Closed => "Closed",
-        Disposition::Lost => "Lost",
-        Disposition::Dropped(why) => dropped_name(why),
-    }
-}
-
-fn dropped_name(why: Why) -> &'static str
+/// Why a packet was dropped.
+pub fn dropped_name(why: Why) -> &'static str
     ensures { result.now ≡ why_name why }
 {
     match why {

@@ -42,7 +42,7 @@ returns-clause-played g c =
     let held = g.W.Write.contents c.args.writer.now in
     let event : Happening = happening_of c.in-Ok.event in
     let said : event_of c.args.line.now ≡ Some event =
-    sym c.event_of.ensures.event ∙ ap (λ r. option_map happening_of (result_ok r)) c.in-Ok.is in
+    sym c.event_of-parsed.ensures.event ∙ ap (λ r. option_map happening_of (result_ok r)) c.in-Ok.is in
     IfOk-weaker c.play_event.result _ _
     (λ refused plays ready. (
       subst
@@ -59,7 +59,7 @@ pub returns-in-Err-clause-bad : goal.returns-in-Err-clause-bad
 returns-in-Err-clause-bad g c n is =
     let other : bytes_eq c.args.line.now settle_word ≡ false = search rules in
     let none : event_of c.args.line.now ≡ None =
-    sym c.event_of.ensures.event ∙ ap (λ r. option_map happening_of (result_ok r)) c.in-Err.is in
+    sym c.event_of-parsed.ensures.event ∙ ap (λ r. option_map happening_of (result_ok r)) c.in-Err.is in
     (search rules, bad_line c.args.line.now other none, keeps_same (g.W.Write.contents c.args.writer.now) c.args.out.now c.args.out.now refl)
 
 pub returns-clause-no_memory : goal.returns-clause-no_memory
@@ -68,7 +68,7 @@ returns-clause-no_memory g c is =
     let other : bytes_eq c.args.line.now settle_word ≡ false = search rules in
     let event : Happening = happening_of c.in-Ok.event in
     let said : event_of c.args.line.now ≡ Some event =
-    sym c.event_of.ensures.event ∙ ap (λ r. option_map happening_of (result_ok r)) c.in-Ok.is in
+    sym c.event_of-parsed.ensures.event ∙ ap (λ r. option_map happening_of (result_ok r)) c.in-Ok.is in
     let (lab, text) = c.play_event.ensures.no_memory is in
     let (some, told)
     = event_line_wants c.args.line.now c.args.self.now c.play_event.new.lab (g.W.Write.contents c.args.writer.now)
