@@ -18,6 +18,7 @@ import unittest
 from tests.chudp_reference import in_chudp, random_datagram, report, summed
 from tests.packets import ANS, CLS, DATA, EOF, FWD, LOS, LSN, OPN, RFC, SNS, STS, datagram
 from tests.scripts import text_of
+from tests.seal_reference import SEAL_BYTES, Head, sealed
 from tests.support import (
     CLIENT, DATA_LIMIT, DONE, LONG, PROGRAM, ROOT, SERVER, Case, Checking, Relay, at, folder, free_ports, run, serving,
 )  # fmt: skip
@@ -191,7 +192,7 @@ HARMS = [
     lambda dice, good: good + dice.randbytes(dice.randrange(1, 5)),
     lambda dice, good: good.ljust(dice.randrange(2_015, 2_026), b"x"),
     lambda dice, good: with_bytes(good, dice.randrange(2), [dice.randrange(256)]),
-    lambda dice, good: with_bytes(good, 2, [dice.choice([0, 1, 3, 255]), dice.randrange(3)]),
+    lambda dice, good: with_bytes(good, 2, [dice.choice([0, 1, 4, 255]), dice.randrange(3)]),
     lambda dice, good: with_bytes(good, 3, [dice.randrange(12)]),
     lambda dice, good: with_bytes(good, 6, struct.pack(">H", dice.randrange(489, 65_536))),
     lambda dice, good: dice.randbytes(dice.randrange(1, 40)),
@@ -403,6 +404,59 @@ class Chudp(Dissecting):
         self.check("nothing stops the dissector of CHUDP", differences(self.tshark.frames(seen, "_ws.lua.error"), []))
 
 
+# Seals.
+
+KEY, GREATEST_NUMBER = bytes(range(32)), 2**64 - 1
+
+
+class Seals(Dissecting):
+    """What tshark shows of sealed datagrams."""
+
+    seconds = 5
+
+    def test_the_seal_and_what_it_holds_are_shown(self):
+        """A request, a hello, a bundle of two packets with the greatest numbers, and a payload that is none."""
+        me, host, new = (CLIENT, 0o1405), (SERVER, 0), (SERVER, 1)
+        request, status = datagram(RFC, host, me, 5, 0, b"FILE"), datagram(STS, new, me, 0, 258, bytes(4))
+        heads = [Head(SERVER, CLIENT, 20, 0, 1), Head(CLIENT, SERVER, 30, 20, 1), Head(*[65_535] * 2, *[GREATEST_NUMBER] * 3), Head(SERVER, CLIENT, 20, 30, 3)]
+        payloads = [request, b"", MARK_2 + b"\x02" + status[4:] * 2, MARK_1]
+        seen = [(CLIENT_PORT, SERVER_PORT, sealed(KEY, head, payload)) for head, payload in zip(heads, payloads)]
+        names = [*(f"seal.{name}" for name in ["to", "from", "session", "peer", "counter", "length", "tag"]), "version", "packets", "op", "fault"]
+        table = self.tshark.fields(seen, [f"chaosnet.{name}" for name in names])
+        more = [["3,1", "", "1", ""], ["3", "", "", ""], ["3,2", "2", "7,7", ""], ["3,1", "", "", "fault 4 Packet 1 Short"]]
+        wanted = [[*map(str, head), str(len(payload)), one[-16:].hex()] for head, payload, (_, _, one) in zip(heads, payloads, seen)]
+        self.check("four sealed datagrams, field by field", differences(table, [[*one, *rest] for one, rest in zip(wanted, more)]))
+        texts = self.tshark.run(seen[:2], "-o", 'gui.column.format:"Info","%i"').splitlines()
+        lines = ["[Sealed] 000402:001405 → 000401:000000 [RFC] Num=5 FILE", "[Sealed, empty] To: 000402, From: 000401, Counter: 1"]
+        self.check("and their lines in the list of packets", differences([text.strip() for text in texts], lines))
+        text = self.tshark.run(seen[:1], "-V")
+        self.check("a seal doesn't encrypt, and its tag isn't checked", [it for it in ["24 [not encrypted]", " [not checked]"] if it not in text])
+
+    def test_a_seal_is_recognized_and_its_faults_are_told(self):
+        good = sealed(KEY, Head(SERVER, CLIENT, 20, 30, 1))
+        rows = [(good, "", ""), (good[:-1], "fault 1 Short", "1"), (with_bytes(good, 3, [1]), "fault 2 BadVersion", "2"), (good[:4], "fault 1 Short", "1")]
+        seen = [(CLIENT_PORT, SERVER_PORT, one) for one, _, _ in rows]
+        table = self.tshark.fields(seen, ["chaosnet.fault", "chaosnet.seal.fault.code"])
+        self.check("the faults of a seal, typed", differences(table, [[fault, code] for _, fault, code in rows]))
+        alone = [(CLIENT_PORT + n, OTHER_PORT, one) for n, (one, _, _) in enumerate(rows)]
+        self.check("by its mark, version and length alone", differences(self.tshark.frames(alone, "chaosnet"), [1]))
+        for kept in (4, SEAL_BYTES - 1):
+            rows = self.tshark.fields(captured(seen[:1], 28 + kept), ["chaosnet.cut", "chaosnet.fault"])
+            self.check(f"a seal of which {kept} bytes were kept is cut, and has no fault", differences(rows, [["1", ""]]))
+
+    def test_connections_and_file_are_shown_as_in_clear(self):
+        me, host, new = (CLIENT, 0o1405), (SERVER, 0), (SERVER, 1)
+        up = [datagram(RFC, host, me, 65_535, 0, b"FILE"), datagram(DATA, new, me, 0, 7, b"T  LOGIN M")]
+        down = [datagram(OPN, me, new, 7, 65_535, bytes(4)), datagram(DATA, me, new, 8, 0, b"T  LOGIN M")]
+        order = [up[0], down[0], up[1], up[1], down[1]]
+        own = [(CLIENT_PORT, SERVER_PORT, each) if each in up else (SERVER_PORT, CLIENT_PORT, each) for each in order]
+        seen = [(*ports, sealed(KEY, Head(SERVER, CLIENT, 20, 30, n), each)) for n, (*ports, each) in enumerate(own, 1)]
+        names = ["op", "stream", "contact", "analysis.first_in", *(f"file.{part}" for part in ["line", "command_in", "reply_in", *LINE_PARTS])]
+        both = [self.tshark.fields(each, [f"chaosnet.{name}" for name in names], "-2") for each in (own, seen)]
+        self.check("a session of FILE is shown alike in both", differences(both[1], both[0]))
+        self.check("nothing stops the dissector of seals", differences(self.tshark.frames(seen, "_ws.lua.error"), []))
+
+
 class Dissector(Dissecting, Case):
     """What tshark shows by the dissector."""
 
@@ -485,7 +539,7 @@ class Dissector(Dissecting, Case):
         """What is taken for Chaosnet: by the mark and a version, after one such, and on a port that was named."""
         good = datagram(STS, (SERVER, 1), (CLIENT, 1), 0, 0, bytes(4))
         other = with_bytes(good, 0, b"XY")
-        seen = [(CLIENT_PORT, SERVER_PORT, each) for each in (other, good[:2], with_bytes(good, 2, b"\x03"), b"")]
+        seen = [(CLIENT_PORT, SERVER_PORT, each) for each in (other, good[:2], with_bytes(good, 2, b"\x04"), b"")]
         seen += [(CLIENT_PORT, SERVER_PORT, good), (SERVER_PORT, CLIENT_PORT, other), (CLIENT_PORT + 1, SERVER_PORT, other)]
         for name, words, frames in [
             ("the mark and a version, and what goes between the same sockets later", [], [5, 6]),

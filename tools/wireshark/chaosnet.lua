@@ -7,7 +7,8 @@
 --
 -- A datagram is the mark 43 48, then a version:
 --   01 00  and the words of one packet, each high byte first, and nothing more;
---   02 N   and N packets, from 1 to 8, one after the other, and nothing more, at most 2,020 bytes in all.
+--   02 N   and N packets, from 1 to 8, one after the other, and nothing more, at most 2,020 bytes in all;
+--   03 00  and a seal around a datagram of version 1 or 2, or around nothing. A seal doesn't encrypt. Its tag isn't checked here.
 -- The format of a packet and the FILE language are told in docs/PROTOCOL.md and docs/FILE.md. The faults are those of `chaosd show`.
 --
 -- CHUDP is the framing of cbridge and other Chaosnet programs:
@@ -18,10 +19,13 @@
 
 local chaosnet = Proto("chaosnet", "Chaosnet")
 local file = Proto("chaosnet.file", "Chaosnet FILE")
+local seal = Proto("chaosnet.seal", "Chaosnet Seal")
 local chudp = Proto("chaosnet.chudp", "CHUDP")
 
 local HEADER_WORDS, DATA_LIMIT = 8, 488
 local FRONT, GREATEST = 4, 2020
+local SEAL_HEAD, SEAL_TAG = 32, 16
+local SEAL_LEAST = SEAL_HEAD + SEAL_TAG
 local TRAILER, CHUDP_LEAST, CHUDP_GREATEST, CHUDP_PORT = 6, 26, 2048, "42042"
 local HALF_CIRCLE, CIRCLE = 32768, 65536
 local MOST_SHOWN, GREATEST_LENGTH = 200, 4294967295
@@ -37,6 +41,7 @@ for op = DWD, 255 do OPCODES[op] = "DWD" end
 
 local FAULTS = { "Short", "BadMark", "BadVersion", "Packet", "Trailing", "BadNumber", "TooLong", "PacketAt" }
 local PACKET_FAULTS = { "Short", "BadCount", "Truncated" }
+local SEAL_FAULTS = { "Short", "BadVersion" }
 local CHUDP_FAULTS = { "TooLong", "Short", "BadVersion", "BadFunction", "BadSum", "Packet", "Trailing" }
 local BAD_SUM = 5
 
@@ -92,6 +97,18 @@ local g = {
   command_in = ProtoField.framenum("chaosnet.file.command_in", "Command In", base.NONE, frametype.REQUEST),
 }
 file.fields = g
+
+local s = {
+  to = ProtoField.uint16("chaosnet.seal.to", "To", base.OCT),
+  from = ProtoField.uint16("chaosnet.seal.from", "From", base.OCT),
+  session = ProtoField.uint64("chaosnet.seal.session", "Session", base.DEC, nil, nil, "The sender's session"),
+  peer = ProtoField.uint64("chaosnet.seal.peer", "Peer", base.DEC, nil, nil, "The receiver's session as the sender last heard it"),
+  counter = ProtoField.uint64("chaosnet.seal.counter", "Counter", base.DEC),
+  length = ProtoField.uint16("chaosnet.seal.length", "Payload Bytes", base.DEC, nil, nil, "A seal doesn't encrypt its payload"),
+  tag = ProtoField.bytes("chaosnet.seal.tag", "Tag", base.NONE, "16 bytes of HMAC-SHA-256, which aren't checked here"),
+  fault_code = ProtoField.uint8("chaosnet.seal.fault.code", "Fault", base.DEC, SEAL_FAULTS),
+}
+seal.fields = s
 
 local h = {
   version = ProtoField.uint8("chaosnet.chudp.version", "Version"),
@@ -513,20 +530,63 @@ local function is_whole(tvb, pinfo, tree)
 end
 
 -- The columns of the list of packets: the packets of a datagram by their texts, behind its fault where it was refused by one.
-local function set_columns(pinfo, texts, any_file, refused)
+local function set_columns(pinfo, texts, any_file, refused, front)
   if refused then table.insert(texts, 1, "[Refused: " .. refused .. "]") end
   if any_file then pinfo.cols.protocol = "Chaos FILE" end
-  pinfo.cols.info = table.concat(texts, "; ")
+  pinfo.cols.info = (front or "") .. table.concat(texts, "; ")
+end
+
+-- A datagram of version 1 or 2, behind a text of its seal where it has one.
+local function dissect_clear(tvb, pinfo, root, front)
+  local tree = root:add(chaosnet, tvb())
+  add_front(tree, tvb)
+  if not is_whole(tvb, pinfo, tree) then return end
+  local packets, fault = read_datagram(tvb)
+  local texts, any_file = add_packets(packets, fault, tvb, pinfo, tree, root)
+  set_columns(pinfo, texts, any_file, fault and add_fault(tree, tvb, fault, FAULTS, f.fault_code), front)
+end
+
+-- Seals.
+
+local function is_sealed(tvb)
+  return tvb:len() >= FRONT and tvb(0, 2):raw() == "CH" and tvb(2, 1):uint() == 3
+end
+
+local function seal_fault(tvb)
+  if tvb:len() < SEAL_LEAST then return { code = 1, from = 0 } end
+  if tvb(3, 1):uint() ~= 0 then return { code = 2, from = 3 } end
+end
+
+-- What a seal says, and its text for the list of packets.
+local function add_seal(tree, tvb)
+  local to, from, counter = tvb(4, 2), tvb(6, 2), tvb(24, 8)
+  tree:add(s.to, to)
+  tree:add(s.from, from)
+  tree:add(s.session, tvb(8, 8))
+  tree:add(s.peer, tvb(16, 8))
+  tree:add(s.counter, counter)
+  tree:add(s.length, tvb:len() - SEAL_LEAST):set_generated():append_text(" [not encrypted]")
+  tree:add(s.tag, tvb(tvb:len() - SEAL_TAG, SEAL_TAG)):append_text(" [not checked]")
+  return ("To: %06o, From: %06o, Counter: %s"):format(to:uint(), from:uint(), tostring(counter:uint64()))
+end
+
+-- A sealed datagram, and the datagram in it as any other. An empty one says which session its sender has: it may be a hello.
+local function dissect_sealed(tvb, pinfo, root)
+  local tree = root:add(chaosnet, tvb())
+  add_front(tree, tvb)
+  if not is_whole(tvb, pinfo, tree) then return end
+  local fault = seal_fault(tvb)
+  if fault then return set_columns(pinfo, {}, false, add_fault(tree, tvb, fault, SEAL_FAULTS, s.fault_code)) end
+  local text = add_seal(tree:add(seal, tvb()), tvb)
+  tree:append_text(", Sealed, " .. text)
+  if tvb:len() == SEAL_LEAST then return set_columns(pinfo, { "[Sealed, empty] " .. text }, false) end
+  dissect_clear(tvb(SEAL_HEAD, tvb:len() - SEAL_LEAST):tvb(), pinfo, root, "[Sealed] ")
 end
 
 function chaosnet.dissector(tvb, pinfo, root)
   pinfo.cols.protocol = "Chaosnet"
-  local tree = root:add(chaosnet, tvb())
-  add_front(tree, tvb)
-  if not is_whole(tvb, pinfo, tree) then return tvb:len() end
-  local packets, fault = read_datagram(tvb)
-  local texts, any_file = add_packets(packets, fault, tvb, pinfo, tree, root)
-  set_columns(pinfo, texts, any_file, fault and add_fault(tree, tvb, fault, FAULTS, f.fault_code))
+  local dissect = is_sealed(tvb) and dissect_sealed or dissect_clear
+  dissect(tvb, pinfo, root)
   return tvb:len()
 end
 
@@ -571,8 +631,8 @@ end
 
 local function looks_like_chaosnet(tvb)
   if tvb:len() < FRONT or tvb(0, 2):raw() ~= "CH" then return false end
-  local version = tvb(2, 1):uint()
-  return version == 2 or version == 1 and tvb(3, 1):uint() == 0
+  local version, zero = tvb(2, 1):uint(), tvb(3, 1):uint() == 0
+  return version == 2 or zero and (version == 1 or version == 3 and tvb:reported_len() >= SEAL_LEAST)
 end
 
 -- The arguments of a datagram that is recognized by its head are 0, as all known programs write them: a reply of STUN begins by 01 01.
