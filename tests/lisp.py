@@ -8,6 +8,7 @@ import shutil
 import struct
 import subprocess
 
+from tests.sealing import called, sealed_serving
 from tests.second import (
     FIRST, LISP, LONG, MACHINE, SECOND, begun, canonical_problems, finished, needs_lisp, network_before, packets_of, ran, serving,
 )
@@ -178,6 +179,32 @@ class Files:
             told = b"chaosd: T has a byte 8D%s, which --text would not give back; leave --text out\n" % place
             ended = ran(self.client, ["put", "--text", *host.words(), "T"], cwd=here)
             self.check(self.named("put --text of a byte that wouldn't come back"), ended.problems(REFUSED, b"", told))
+
+
+@needs_lisp
+class BesideKeys(Case):
+    """The end in Lisp, which has no keys, at a server that has a key with another host."""
+
+    seconds = 20
+
+    def test_a_client_in_lisp_is_served_beside_a_host_with_a_key(self):
+        """And it isn't served in the name of that host."""
+        content = content_of(20_000)
+        with sealed_serving() as server, folder() as here:
+            (here / "A").write_bytes(content)
+            problems = called(server, server, "put", "A", cwd=here).problems(DONE, b"", b"")
+            (here / "A").unlink()
+            words = ["403", at(server.peers[1]), f"401={at(server.port)}"]
+            problems += ran(SECOND, ["get", *words, "A"], cwd=here).problems(DONE, b"", b"") + stored_problems(here / "A", content)
+            self.check("chaosd puts as a host with a key, and Lisp gets as a host without", problems)
+            (here / "B").write_bytes(content)
+            problems = ran(SECOND, ["put", *words, "B"], cwd=here).problems(DONE, b"", b"")
+            (here / "B").unlink()
+            problems += called(server, server, "get", "B", cwd=here).problems(DONE, b"", b"") + stored_problems(here / "B", content)
+            self.check("and the other way round", problems)
+            words = ["402", at(server.peers[0]), f"401={at(server.port)}"]
+            ended = ran(SECOND, ["get", "--timeout", "3", "--output", "C", *words, "A"], cwd=here)
+            self.check("Lisp isn't heard as the host with a key", ended.problems(REFUSED) + (["C is there"] if (here / "C").exists() else []))
 
 
 class FilesChaosdAsks(Files, ChaosdAsks):
