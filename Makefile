@@ -7,10 +7,12 @@ PROGRAM := bin/chaosd
 BENCHES := codec links window host file turn
 PROGRAM_BENCHES := lines copies calls show lab loop stack
 DIALOGUES := out/checked/random_dialogues
+SEALS := out/checked/random_seals
 SEED ?= $(shell date +%s)
 PACKETS ?= 1000000
+DATAGRAMS ?= 1000000
 
-.PHONY: all help try demo test check fmt fmt-check lint wrong-bodies dialogues pictures bench $(PROGRAM_BENCHES:%=bench-%) $(BENCHES:%=bench-%) dist deb ncp install uninstall clean unstamped current
+.PHONY: all help try demo test check fmt fmt-check lint wrong-bodies dialogues seals pictures bench $(PROGRAM_BENCHES:%=bench-%) $(BENCHES:%=bench-%) dist deb ncp install uninstall clean unstamped current
 
 all: bin/chaosd ## prove the program and all crates below it, and build bin/chaosd
 
@@ -58,6 +60,10 @@ wrong-bodies: ## try every mutant of wrong-bodies/, before a release and with a 
 dialogues: ## play random dialogues between two hosts, a million packets from a seed of the clock; SEED=.. PACKETS=..
 	@RT=$(RT) tools/checked random_dialogues
 	@$(DIALOGUES) $(SEED) $(PACKETS)
+
+seals: ## flip bits of a million sealed datagrams from a seed of the clock, none of which may hand a packet up; SEED=.. DATAGRAMS=..
+	@RT=$(RT) tools/checked random_seals
+	@$(SEALS) flips $(SEED) $(DATAGRAMS)
 
 pictures: ## draw the pictures of the documents again (python3, graphviz)
 	@tools/ladder --pictures docs/pictures

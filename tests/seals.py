@@ -1,15 +1,19 @@
-"""Tests the sealed link by itself: the host of tests/seal_reference.py against the vectors of examples/vectors/sealed.txt, and two such
-hosts against each other."""
+"""Tests the sealed link by itself: the host of tests/seal_reference.py against the vectors of examples/vectors/sealed.txt, two such hosts
+against each other, and the library beside them. `make seals` flips bits of a million datagrams."""
 
+import os
 import random
 import re
+import subprocess
+import time
+from concurrent.futures import ThreadPoolExecutor
 
 from tests.packets import DATA, RFC, SNS, datagram
 from tests.seal_reference import (
     BAD_TAG, HANDED_UP, HELLO, LAST_COUNTER, LEARNED, MOST_PAYLOAD, OLD_COUNTER, OLD_SESSION, SEAL_BYTES, STALE, WINDOW,
     Head, Host, destinations_of, head_of, is_sealed, sealed,
 )  # fmt: skip
-from tests.support import CLIENT, ROOT, SERVER, Checking
+from tests.support import CLIENT, LONG, ROOT, SERVER, Checking, checked
 
 SEALED = ROOT / "examples/vectors/sealed.txt"
 OTHER = 0o403
@@ -158,3 +162,62 @@ class TwoHosts(Checking):
         self.check("and none after it", differences(("seal", client.seal(SERVER), None)))
         plain = datagram(RFC, (OTHER, 0), (CLIENT, 1), 1, 0, b"FILE")
         self.check("to a host without a key a datagram goes in clear", differences(("sent", client.sends(plain), plain)))
+
+
+# The library, by the program of tests/crates/random_seals.
+
+SEEDS, FLIPPED, LINES = [1, 2, 3], 4_000, 4_000
+
+
+def ran(*words):
+    """The status of random_seals, and what it printed."""
+    ended = subprocess.run([checked("random_seals"), *map(str, words)], capture_output=True, text=True, timeout=LONG)
+    return ended.returncode, ended.stdout
+
+
+def bytes_of(digits):
+    return b"" if digits == "-" else bytes.fromhex(digits)
+
+
+def outcome_text(host, one):
+    """What becomes of a datagram at a host in Python, as the program prints it."""
+    opened, answer = host.takes(one)
+    if opened.told == HANDED_UP:
+        return f"handed up {opened.payload.hex().upper() or '-'}"
+    return f"hello {answer.hex().upper()}" if opened.told == HELLO else opened.told if opened.told == LEARNED else f"fault {opened.told}"
+
+
+class Library(Checking):
+    """What chaos_seal seals and opens."""
+
+    seconds = 60
+
+    def test_of_flipped_bits_the_library_hands_up_nothing(self):
+        seeds = [*SEEDS, time.time_ns() // 1_000]
+        with ThreadPoolExecutor(len(os.sched_getaffinity(0))) as lanes:
+            runs = list(lanes.map(lambda seed: ran("flips", seed, FLIPPED), seeds))
+        for seed, (status, told) in zip(seeds, runs):
+            wanted = ["flipped, handed up or answered 0", f"whole, handed up {FLIPPED // 8}", "again, handed up 0", "ok"]
+            problems = [line for line in wanted if line not in told.splitlines()]
+            self.check(f"{FLIPPED} datagrams from seed {seed}", [f"status {status}", told] if status or problems else [])
+
+    def test_the_library_and_the_reference_make_the_same_of_any_datagram(self):
+        keys, host, wrong, outcomes = {}, None, [], set()
+        status, told = ran("lines", 1981, LINES)
+        for line in told.splitlines():
+            word, rest = line.split(" ", 1)
+            if word == "key":
+                address, digits = rest.split()
+                keys[int(address, 8)] = bytes_of(digits)
+            elif word == "session":
+                host = Host(SERVER, int(rest), keys)
+            else:
+                seen = outcome_text(host, bytes_of(word))
+                wrong += [f"{word}: {rest} and not {seen}"] if seen != rest else []
+                outcomes.add(re.match(r"fault \d+|\w+", rest)[0])
+        self.check(f"{LINES} datagrams of all kinds", wrong[:3] + ([f"status {status}"] if status else []))
+        wanted = {"handed", "hello", "learned", *(f"fault {number}" for number in range(1, 11))}
+        self.check("each outcome is among them", sorted(wanted - outcomes))
+
+    def test_words_that_are_none_of_its_are_a_mistake_status_2(self):
+        self.assertEqual([(2, "")] * 2, [ran("nonsense"), ran("flips", "x")])
