@@ -266,13 +266,15 @@ class Requests(Case):
         me, host, new = (STRANGER, 1), (SERVER, 0), (SERVER, 1)
         blind = [datagram(RFC, host, me, 5, 0, b"FILE"), datagram(DATA, new, me, 6, 0, b"T1  LOGIN M"), datagram(DATA, new, me, 7, 0, b"T2  DELETE\x8dF")]
         for is_sealed in (False, True):
-            with sealed_serving(is_sealed) as server, victim_of(server) as (attacker, waiting):
+            with sealed_serving(is_sealed, of_all=True) as server, contextlib.closing(Elsewhere(server)) as attacker, folder() as here:
                 (server.folder / "F").write_bytes(b"(A)")
                 for one in blind:
                     attacker.send(one)
-                problems, is_there = waiting.wait(), (server.folder / "F").exists()
-            name = "where hosts have keys, a host of no entry deletes nothing" if is_sealed else "in clear it deletes a file"
-            self.check(name, problems + ([] if is_there == is_sealed else [f"the file is there: {is_there}"]))
+                ended = called(server, server, "get", "F", cwd=here)
+            if is_sealed:
+                self.check("where each host has a key, a host of no entry deletes nothing", ended.problems(DONE, b"", b""))
+            else:
+                self.check("in clear it deletes a file", ended.problems(REFUSED, b"", b"chaosd: F: FNF No such file.\n"))
 
 
 # Connections that are ended by others.

@@ -20,16 +20,17 @@ def key_file(place, name="402.key", key=KEY):
 
 
 class SealedServing(Serving):
-    """`serve` by a hosts table: host 402 has a key with it where that is wished, and host 403 has none. Its log is read as it comes."""
+    """`serve` by a hosts table: host 402 has a key with it where that is wished, and host 403 has the same key where all are to have one, and
+    none otherwise. Its log is read as it comes."""
 
-    def __init__(self, place, is_sealed=True, options=()):
+    def __init__(self, place, is_sealed=True, of_all=False, options=()):
         top = pathlib.Path(place)
         self.folder, self.key, table = top / "files", key_file(top), top / "hosts"
         self.folder.mkdir()
         self.is_sealed = is_sealed
         self.port, *self.peers = free_ports(3)
-        field = f"key={self.key.name}" if is_sealed else ""
-        lines = [f"401 {at(self.port)} self", f"402 {at(self.peers[0])} laptop {field}", f"403 {at(self.peers[1])} plain"]
+        keys = [f"key={self.key.name}" if it else "" for it in (is_sealed, is_sealed and of_all)]
+        lines = [f"401 {at(self.port)} self", f"402 {at(self.peers[0])} laptop {keys[0]}", f"403 {at(self.peers[1])} other {keys[1]}"]
         table.write_text("".join(f"{line}\n" for line in lines))
         self.line, self.prepare = ["serve", "--log", "all", *options, "--hosts", str(table), str(self.folder)], lambda: None
         self.told = [b"401", at(self.port).encode()]
@@ -58,9 +59,9 @@ class SealedServing(Serving):
 
 
 @contextlib.contextmanager
-def sealed_serving(is_sealed=True, options=()):
+def sealed_serving(is_sealed=True, of_all=False, options=()):
     with tempfile.TemporaryDirectory() as name:
-        server = SealedServing(name, is_sealed, options)
+        server = SealedServing(name, is_sealed, of_all, options)
         try:
             yield server
         finally:
