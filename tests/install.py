@@ -114,7 +114,7 @@ class Install(Case):
     def test_systemd_has_nothing_to_say_of_what_its_page_adds_to_the_unit(self):
         needs_systemd()
         unit, page = self.unit(), (ROOT / "docs/OPERATING.md").read_text()
-        added = textwrap.dedent(re.search(r"^ *```text\n(.*?)^ *```$", page, re.M | re.S)[1])
+        added = textwrap.dedent(re.search(r"^ *```text\n(.*?)^ *```$", page.partition("\n## By systemd\n")[2], re.M | re.S)[1])
         (self.room / "chaosd.service.d").mkdir()
         wishes = ["AmbientCapabilities=CAP_NET_BIND_SERVICE", "CapabilityBoundingSet=CAP_NET_BIND_SERVICE", "PrivateUsers=no", "StateDirectoryMode=0550"]
         self.check("the page names what is wished for", [wish for wish in wishes if wish.partition("=")[0] not in page])

@@ -4,6 +4,7 @@ against each other, and the library beside them. `make seals` flips bits of a mi
 import os
 import random
 import re
+import shutil
 import subprocess
 import time
 from concurrent.futures import ThreadPoolExecutor
@@ -13,7 +14,7 @@ from tests.seal_reference import (
     BAD_TAG, HANDED_UP, HELLO, LAST_COUNTER, LEARNED, MOST_PAYLOAD, OLD_COUNTER, OLD_SESSION, SEAL_BYTES, STALE, WINDOW,
     Head, Host, destinations_of, head_of, is_sealed, sealed,
 )  # fmt: skip
-from tests.support import CLIENT, LONG, ROOT, SERVER, Checking, checked
+from tests.support import CLIENT, LONG, ROOT, SERVER, Checking, checked, folder
 
 SEALED = ROOT / "examples/vectors/sealed.txt"
 OTHER = 0o403
@@ -162,6 +163,22 @@ class TwoHosts(Checking):
         self.check("and none after it", differences(("seal", client.seal(SERVER), None)))
         plain = datagram(RFC, (OTHER, 0), (CLIENT, 1), 1, 0, b"FILE")
         self.check("to a host without a key a datagram goes in clear", differences(("sent", client.sends(plain), plain)))
+
+
+class Keys(Checking):
+    """How docs/OPERATING.md makes a key."""
+
+    def test_each_line_makes_a_file_of_64_digits_that_nobody_else_reads(self):
+        lines = re.findall(r"^ *\$ (\(umask .*> (\S+)\))$", (ROOT / "docs/OPERATING.md").read_text(), re.M)
+        self.check("the page has two lines", [] if len(lines) == 2 else [f"{lines}"])
+        for line, name in lines:
+            if "openssl" in line and not shutil.which("openssl"):
+                continue
+            with folder() as here:
+                ended = subprocess.run(["bash", "-c", line], cwd=here, capture_output=True)
+                text, mode = (here / name).read_text(), (here / name).stat().st_mode & 0o777
+            problems = differences(("status", (ended.returncode, ended.stderr), (0, b"")), ("mode", mode, 0o600))
+            self.check(line, problems + ([] if re.fullmatch(r"[0-9a-f]{64}\n?", text) else [text]))
 
 
 # The library, by the program of tests/crates/random_seals.
