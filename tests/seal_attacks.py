@@ -62,6 +62,12 @@ def forgeries(one, packet):
     return [packet, one[:HEAD_BYTES] + packet + one[-TAG_BYTES:], *(sealed(FALSE_KEY, each, packet) for each in (head, later))]
 
 
+def unharmed_problems(ended):
+    """What is wrong with a call that does all its work under attack: a client may report that it refused a datagram."""
+    other = [line for line in ended.err.splitlines() if not line.startswith(b"chaosd: refused a datagram of ")]
+    return ended.problems(DONE, b"") + [f"it reports {line}" for line in other]
+
+
 # A bit that flips.
 
 
@@ -120,7 +126,7 @@ class Bits(Case):
                 (here / name).write_bytes(content)
             for subcommand, target in [("put", server.folder), ("get", here)]:
                 with road_before(server, flipped=0.04) as road:
-                    problems = called(server, road, subcommand, *contents, options=["--timeout", "600"], cwd=here).problems(DONE, b"", b"")
+                    problems = unharmed_problems(called(server, road, subcommand, *contents, options=["--timeout", "600"], cwd=here))
                 for name, content in contents.items():
                     problems += stored_problems(target / name, content)
                 self.check(f"{subcommand} of {len(contents)} files under seal", problems + left_problems(target))
@@ -175,11 +181,11 @@ class Gets(Case):
         ended, wrong, _ = self.got(Answering, False, FOR_LONG)
         self.check("in clear a forged reply gives a wrong file, with status 0", ended.problems(DONE) + ([] if wrong else ["it is right"]))
         ended, wrong, _ = self.got(Answering, True, FOR_LONG)
-        self.check("under seal the file is the server's", ended.problems(DONE, b"", b"") + wrong)
+        self.check("under seal the file is the server's", unharmed_problems(ended) + wrong)
         ended, _, is_there = self.got(Keeping, True, ["--timeout", "3"])
         self.check("and there is none where the server's replies are kept back", ended.problems(REFUSED) + (["it is there"] if is_there else []))
         ended, wrong, _ = self.got(Opening, True, FOR_LONG)
-        self.check("under seal a forged OPN opens nothing", ended.problems(DONE, b"", b"") + wrong)
+        self.check("under seal a forged OPN opens nothing", unharmed_problems(ended) + wrong)
 
 
 # Requests in the name of another, and what they draw.
@@ -272,7 +278,7 @@ class Requests(Case):
                     attacker.send(one)
                 ended = called(server, server, "get", "F", cwd=here)
             if is_sealed:
-                self.check("where each host has a key, a host of no entry deletes nothing", ended.problems(DONE, b"", b""))
+                self.check("where each host has a key, a host of no entry deletes nothing", unharmed_problems(ended))
             else:
                 self.check("in clear it deletes a file", ended.problems(REFUSED, b"", b"chaosd: F: FNF No such file.\n"))
 
@@ -364,8 +370,8 @@ class Replays(Case):
         (server.folder / "B").write_bytes(b"(B)")
         with network_before(server, make) as network:
             network.server = server.port
-            problems = called(server, network, "put", "A", cwd=here).problems(DONE, b"", b"")
-            problems += called(server, network, "delete", "B").problems(DONE, b"", b"")
+            problems = unharmed_problems(called(server, network, "put", "A", cwd=here))
+            problems += unharmed_problems(called(server, network, "delete", "B"))
         problems += stored_problems(server.folder / "A", mixed_content(1_000)) + (["B is there"] if (server.folder / "B").exists() else [])
         return network.kept, problems
 
