@@ -51,7 +51,7 @@ passed_up (Opening from came (opening.Refused fault) ∷ calls) = passed_up call
 
 -- From a socket on that has heard nothing: what is handed up of a seal was sealed by its host for this run, each datagram at most once;
 -- the sessions of a host never go back, and within a session each lies fewer than 256 behind each one handed up before. What is handed
--- up as it came carries no packet of a host with a key. The one premise is that nobody else makes a right tag.
+-- up as it came carries packets of hosts alone that are heard in clear. The one premise is that nobody else makes a right tag.
 abbrev pub HandsUpOnce : Type 0
 HandsUpOnce = (sealed : List Up) (s : Sealing) (calls : List Call) → IsUnheard s.seals → Makes s calls
     → Every (λ d. (u : Up) → HasRightTag s.seals u d → Contains sealed u) (came_in calls)

@@ -25,7 +25,7 @@ pub fn law_sent<S: DatagramSocket, O, K: PeerKeeper>()
 pub fn law_received()
     // What is handed up of a seal was sealed by its host for this run of the receiver, each datagram
     // at most once. The sessions of a host never go back, and within a session each datagram lies
-    // fewer than 256 behind each one handed up before. What is handed up as it came carries no packet
-    // of a host with a key. The one premise is that without the key nobody makes a right tag.
+    // fewer than 256 behind each one handed up before. What is handed up as it came carries packets
+    // of hosts alone that are heard in clear. The one premise is that without the key nobody makes a right tag.
     ensures { HandsUpOnce }
 {}
