@@ -28,11 +28,12 @@ BENCHES = {
     "window": ["chaos_window", "chaos_packet"],
     "host": ["chaos_host", "chaos_conn", "chaos_packet"],
     "file": ["chaos_file"],
+    "seal": ["chaos_seal", "chaos_link", "chaos_packet", "arrayvec"],
     "turn": ["file_server", "chaos_node", "chaos_file", "chaos_host", "chaos_conn", "chaos_link", "chaos_packet", "arrayvec"],
 }
 
 # the rivals of a bench that has more than one: what a line of each says behind its name
-RIVALS = {"turn": {"turn": "", "turn_2": ", beside no walks"}}
+RIVALS = {"turn": {"turn": "", "turn_2": ", beside no walks"}, "seal": {"seal": "", "seal_openssl": ", beside OpenSSL"}}
 
 
 def lines_of_crates():

@@ -29,6 +29,8 @@ SMALL, SIZES = 500, (100, 4_000)
 JUDGED = "chaosd, window 64, carriage 2"
 AIMS = {"1 MiB": ["atftp, window 32", "curl"], "500 files": ["curl"]}
 PROCESSOR_AIM = 6.0
+# how much longer a copy may take whose datagrams are sealed
+SEALED_AIM = 1.5
 
 
 def file_system(folder):
@@ -78,8 +80,9 @@ class Running:
 def ours_of(program, plain):
     """chaosd with both windows and both carriages, and plain Rust with both carriages, by their names."""
     ours = {f"chaosd, window {window}, carriage {carriage}": (window, carriage) for window in [13, 64] for carriage in [1, 2]}
+    sealed = {f"{name}, sealed": Chaosd(name, program, *own, has_key=True) for name, own in ours.items() if own[0] == 13}
     rivals = {f"plain Rust, window 13, carriage {carriage}": Chaosd("plain Rust", plain, carriage=carriage) for carriage in [1, 2]}
-    return {name: Chaosd(name, program, *own) for name, own in ours.items()} | rivals
+    return {name: Chaosd(name, program, *own) for name, own in ours.items()} | sealed | rivals
 
 
 def copiers_of(program, plain):
@@ -145,6 +148,12 @@ def print_missed(memory):
                 ratio = ours[what, way, "seconds"] / memory[rival][what, way, "seconds"]
                 if ratio > 1:
                     print(f"missed: `copies`, a {way} of {what} beside {rival}: {ratio:.2f}, aim 1.0.")
+    for name, sealed in memory.items():
+        clear_one = memory.get(name.removesuffix(", sealed"))
+        for way in ["put", "get"] if name.endswith(", sealed") and clear_one else []:
+            ratio = sealed["1 MiB", way, "seconds"] / clear_one["1 MiB", way, "seconds"]
+            if ratio > SEALED_AIM:
+                print(f"missed: `copies`, a {way} of 1 MiB, {name}: {ratio:.2f} times as long as in clear, aim {SEALED_AIM}.")
     for way in ["put", "get"]:
         spent = ours["1 MiB", way, "processor"] * 1000
         if spent > PROCESSOR_AIM:

@@ -24,7 +24,7 @@ LOG = ROOT / "out/bench.log"
 
 # benches of the program, each a script, and those of libraries, which bench/beside.py has
 OF_PROGRAM = ["lines", "copies", "calls", "show", "lab", "loop", "stack"]
-OF_LIBRARIES = ["codec", "links", "window", "host", "file", "turn"]
+OF_LIBRARIES = ["codec", "links", "window", "host", "file", "seal", "turn"]
 
 # the tables that benches print whole
 PRINTED = ["lines", "copies", "calls"]
@@ -96,6 +96,11 @@ LIBRARIES = {
             1.1,
             why="A reply's place is cleared before it is written, and copies look for an overlap.",
         ),
+    ],
+    "seal": [
+        Row("a datagram of 508 bytes, sealed", "seal: seal of 508 bytes", None, "seal: the whole run"),
+        Row("sealed, and opened at the other end", "seal: seal and open of 508 bytes"),
+        Row("the same, whose tags plain Rust has from OpenSSL", "seal: seal and open of 508 bytes, beside OpenSSL"),
     ],
     "turn": [
         Row(
