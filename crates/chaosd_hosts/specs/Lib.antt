@@ -2,6 +2,7 @@ pub mod Addresses
 pub mod Fields
 pub mod Following
 pub mod Kept
+pub mod Keys
 pub mod Names
 pub mod Numbers
 pub mod Table

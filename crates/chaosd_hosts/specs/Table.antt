@@ -1,5 +1,5 @@
 -- The table that a text writes, or the first bad line.
-use Rattle.std.specs.Prelude.{◌==◌, ◌&&◌, ◌||◌, ◌++◌, ◌∷◌, ◌+◌, ℕ, Bool, not, codes, List, [], length, nat_lt, Option, None, Some, is_some, option_map, if◌then◌else◌, Result, Ok, Err}
+use Rattle.std.specs.Prelude.{◌==◌, ◌&&◌, ◌||◌, ◌++◌, ◌∷◌, ◌+◌, ℕ, Bool, not, codes, List, [], length, nat_lt, Option, None, Some, is_some, option_map, unwrap_or, if◌then◌else◌, true, false, Result, Ok, Err}
 use Rattle.std.specs.List.{filter_map, find, list_any}
 use Rattle.std.specs.Option.{ok_or, option_or}
 use Rattle.std.specs.Str.{bytes_eq}
@@ -9,11 +9,11 @@ use Rattle.chaos_link.specs.Peers.{PeersView}
 use Rattle.chaos_link.specs.declared.limits.TheConstants.{MAX_PEERS}
 use Rattle.chaos_link.specs.declared.peers.Peer.{Peer}
 use Rattle.chaosd_hosts.specs.Addresses.{address_of, socket_of}
-use Rattle.chaosd_hosts.specs.Fields.{before_comment, fields_of}
+use Rattle.chaosd_hosts.specs.Fields.{before_comment, fields_of, key_file, keys_among, names_among}
 use Rattle.chaosd_hosts.specs.Names.{is_host_name, is_own_name, is_same_name}
 use Rattle.chaosd_hosts.specs.Text.{Text}
 use Rattle.chaosd_hosts.specs.declared.fault.Reason.{Reason}
-use Rattle.chaosd_hosts.specs.declared.fault.Reason.TheVariants.{BadAddress, NoUdp, BadUdp, NoName, BadName, AddressTwice, NameTwice, TooManyHosts, TooManySelves, SecondBridge, BridgeWithoutUdp}
+use Rattle.chaosd_hosts.specs.declared.fault.Reason.TheVariants.{BadAddress, NoUdp, BadUdp, NoName, BadName, SecondKey, NoKeyFile, StrayKey, AddressTwice, NameTwice, TooManyHosts, TooManySelves, SecondBridge, BridgeWithoutUdp}
 use Rattle.chaosd_hosts.specs.declared.fault.Refusal.{Refusal}
 use Rattle.chaosd_hosts.specs.declared.fault.TableFault.{TableFault}
 use Rattle.chaosd_hosts.specs.declared.host.Host.{Host}
@@ -21,11 +21,13 @@ use Rattle.chaosd_hosts.specs.declared.host.TheConstants.{MAX_SELVES}
 
 -- ---- what contracts see
 
--- a host; without a UDP address the host is answered where its last good datagram came from
+-- a host; without a UDP address the host is answered where its last good datagram came from; with the name of a file its packets are
+-- sealed with the key in that file
 pub record HostView : Type 0 where
   pub address : ℕ
   pub udp : Option SocketAddrV4
   pub names : List Text
+  pub key : Option Text
 
 pub record TableView : Type 0 where
   pub selves : List HostView
@@ -42,7 +44,12 @@ pub record FaultView : Type 0 where
   pub refusal : RefusalView
 
 abbrev pub host_view : Host → HostView
-host_view host = record { address = host.address; udp = host.udp; names = fields_of host.names.now }
+host_view host = record {
+  address = host.address;
+  udp = host.udp;
+  names = names_among (fields_of host.fields.now);
+  key = option_map (λ file. file.now) host.key;
+}
 
 abbrev pub refusal_view : Refusal → RefusalView
 refusal_view refusal = record { reason = refusal.reason; word = refusal.word.now }
@@ -78,26 +85,46 @@ abbrev pub named : {T : Type 0} → T → Option Text → Result T RefusalView
 named x (Some name) = refused BadName name
 named x None = Ok x
 
--- names that a line needs
-abbrev pub named_once : {T : Type 0} → Text → List Text → T → Result T RefusalView
-named_once word [] x = refused NoName word
-named_once word (name ∷ names) x = named x (bad_name (name ∷ names))
+-- the names of a line, of which the line needs one
+abbrev pub good_names : Text → List Text → Result (List Text) RefusalView
+good_names word [] = refused NoName word
+good_names word (name ∷ names) = named (name ∷ names) (bad_name (name ∷ names))
+
+-- a field that names a file
+abbrev pub file_in : Text → Result (Option Text) RefusalView
+file_in field = let file = unwrap_or (key_file field) [] in
+    if length file == 0 then refused NoKeyFile field else Ok (Some file)
+
+-- the key file of a line, if its fields name one: another host has at most one, and this host and the bridge have none
+abbrev pub key_by : Bool → List Text → Result (Option Text) RefusalView
+key_by is_other [] = Ok None
+key_by false (field ∷ fields) = refused StrayKey field
+key_by true (field ∷ []) = file_in field
+key_by true (field ∷ (second ∷ fields)) = refused SecondKey second
+
+abbrev pub host_with : ℕ → Option SocketAddrV4 → List Text → List Text → Result HostView RefusalView
+host_with address udp keys names = then_by (key_by (not (list_any is_own_name names)) keys)
+    (λ key. Ok (record { address = address; udp = udp; names = names; key = key }))
 
 abbrev pub host_at : Text → List Text → ℕ → Result HostView RefusalView
 host_at word [] address = refused NoUdp word
-host_at word (udp ∷ names) address = then_by (read_by udp_of BadUdp udp)
-    (λ socket. named_once word names (record { address = address; udp = socket; names = names }))
+host_at word (udp ∷ fields) address = then_by (read_by udp_of BadUdp udp)
+    (λ socket. then_by (good_names word (names_among fields)) (host_with address socket (keys_among fields)))
 
--- a host's line: a Chaosnet address, a UDP address or a star, and names
+-- a host's line: a Chaosnet address, a UDP address or a star, and names, among which a key file may stand
 unfoldable pub host_in : Text → List Text → Result HostView RefusalView
 host_in word fields = then_by (read_by address_of BadAddress word) (host_at word fields)
 
 -- the bridge's line: a star, a UDP address, and names or none
+abbrev pub bridge_with : List Text → SocketAddrV4 → Result SocketAddrV4 RefusalView
+bridge_with fields socket = then_by (named socket (bad_name (names_among fields)))
+    (λ named. then_by (key_by false (keys_among fields)) (λ key. Ok named))
+
 unfoldable pub bridge_in : Text → List Text → Result SocketAddrV4 RefusalView
 bridge_in word [] = refused BridgeWithoutUdp word
-bridge_in word (udp ∷ names) =
+bridge_in word (udp ∷ fields) =
     if is_star udp then refused BridgeWithoutUdp word
-    else then_by (read_by socket_of BadUdp udp) (λ socket. named socket (bad_name names))
+    else then_by (read_by socket_of BadUdp udp) (bridge_with fields)
 
 -- ---- one line more
 

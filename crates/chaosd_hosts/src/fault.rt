@@ -19,6 +19,12 @@ pub enum Reason {
     NoName,
     #[error("is no name of a host: expected 1 to 64 letters, digits, hyphens and dots, at least one of them a letter")]
     BadName,
+    #[error("is a second key: expected at most one on a line")]
+    SecondKey,
+    #[error("names no file: expected key=FILE")]
+    NoKeyFile,
+    #[error("is a key of no other host: expected a key on the line of another host, neither of self nor of the bridge")]
+    StrayKey,
     #[error("has an entry already: expected each Chaosnet address once")]
     AddressTwice,
     #[error("names a host already: expected each name once, except self")]

@@ -1,10 +1,14 @@
 //! The fields of a line of a table.
-ghost use Rattle.std.specs.Prelude.{◌≡◌, ◌∷◌, [], ◌<◌, IfSome, MatchOption, length, position};
+ghost use Rattle.std.specs.Prelude.{◌≡◌, ◌∷◌, [], ◌<◌, IfSome, MatchOption, length, option_map, position};
 ghost use Rattle.std.specs.List.{after_first, before_first, list_any};
-ghost use Rattle.chaosd_hosts.specs.Fields.{before_comment, fields_of, is_blank};
+ghost use Rattle.chaosd_hosts.specs.Fields.{before_comment, fields_of, is_blank, key_file, keys_among, names_among, names_key};
 ghost use Rattle.chaosd_hosts.specs.Names.{is_same_name};
 
+use crate::addresses::sides_of;
 use crate::names::is_same_name;
+
+/// What stands before the `=` of a field that names a key file.
+const KEY: &str = "key";
 
 /// Whether a byte separates fields: a space or a tab.
 fn is_blank(byte: u8) -> bool
@@ -59,12 +63,63 @@ pub(crate) fn next_field(text: &str) -> Option<(&str, &str)>
     None
 }
 
-/// Whether one of a text's fields is this name.
-pub(crate) fn has_name(text: &str, name: &str) -> bool
-    ensures { result ≡ list_any (is_same_name name.now) (fields_of text.now) }
+/// The file that a field names as the one of a key.
+#[tactic(auto, unfolding(crate::specs::Fields::key_file))]
+pub(crate) fn key_file(field: &str) -> Option<&str>
+    ensures { option_map (λ file. file.now) result ≡ key_file field.now }
+{
+    let (left, file) = sides_of(field)?;
+    if left == KEY { Some(file) } else { None }
+}
+
+/// Whether a field names a key file.
+fn names_key(field: &str) -> bool
+    ensures { result ≡ names_key field.now }
+{
+    key_file(field).is_some()
+}
+
+/// The first field of a text that names no key file, and what stands behind the field.
+#[tactic(auto, unfolding(crate::specs::Fields::names_among))]
+pub(crate) fn next_name(text: &str) -> Option<(&str, &str)>
+    ensures fields { MatchOption result
+        (names_among (fields_of text.now) ≡ [])
+        (λ cut. names_among (fields_of text.now) ≡ cut.0.now ∷ names_among (fields_of cut.1.now)) }
+    ensures shorter { IfSome result (λ cut. length cut.1.now < length text.now) }
 {
     let mut rest = text;
     while let Some((field, behind)) = next_field(rest) {
+        if !names_key(field) {
+            return Some((field, behind));
+        }
+        rest = behind;
+    }
+    None
+}
+
+/// The first field of a text that names a key file, and what stands behind the field.
+#[tactic(auto, unfolding(crate::specs::Fields::keys_among))]
+pub(crate) fn next_key(text: &str) -> Option<(&str, &str)>
+    ensures { MatchOption result
+        (keys_among (fields_of text.now) ≡ [])
+        (λ cut. keys_among (fields_of text.now) ≡ cut.0.now ∷ keys_among (fields_of cut.1.now)) }
+{
+    let mut rest = text;
+    while let Some((field, behind)) = next_field(rest) {
+        if names_key(field) {
+            return Some((field, behind));
+        }
+        rest = behind;
+    }
+    None
+}
+
+/// Whether one of a text's fields is this name, and names no key file.
+pub(crate) fn has_name(text: &str, name: &str) -> bool
+    ensures { result ≡ list_any (is_same_name name.now) (names_among (fields_of text.now)) }
+{
+    let mut rest = text;
+    while let Some((field, behind)) = next_name(rest) {
         if is_same_name(name, field) {
             return true;
         }

@@ -2,7 +2,7 @@
 ghost use Rattle.std.specs.Prelude.{◌≡◌, ◌≤◌, length, map};
 ghost use Rattle.std.specs.List.{filter_map, find, list_any};
 ghost use Rattle.chaos_link.specs.declared.limits.TheConstants.{MAX_PEERS};
-ghost use Rattle.chaosd_hosts.specs.Fields.{fields_of};
+ghost use Rattle.chaosd_hosts.specs.Fields.{fields_of, names_among};
 ghost use Rattle.chaosd_hosts.specs.Names.{is_own_name, is_same_name};
 ghost use Rattle.chaosd_hosts.specs.Table.{followed_address, has_address, has_name, host_view};
 
@@ -15,15 +15,19 @@ use std::net::SocketAddrV4;
 /// The most own entries of a table.
 pub const MAX_SELVES: usize = 8;
 
-/// A host of a table. Its names are lent from the text of the table.
+/// A host of a table. Its names and its key file are lent from the text of the table.
 #[derive(Clone, Copy, Debug)]
 pub struct Host<'a> {
     /// The Chaosnet address.
     pub address: u16,
     /// The UDP address; none where the table has a `*`.
     pub udp: Option<SocketAddrV4>,
-    /// The names as they stand on the line, separated by spaces and tabs.
-    pub names: &'a str,
+    /// The fields behind the UDP address as they stand on the line, separated by spaces and tabs:
+    /// names, and a key file if the host has one.
+    pub fields: &'a str,
+    /// The name of the file that has the key of this host and the table's own, where the two have
+    /// one.
+    pub key: Option<&'a str>,
 }
 
 /// Stands in the places of a table that hold no host yet: address 0, which no host has, without
@@ -33,7 +37,8 @@ impl Default for Host<'_> {
         Host {
             address: 0,
             udp: None,
-            names: "",
+            fields: "",
+            key: None,
         }
     }
 }
@@ -43,17 +48,17 @@ impl Host<'_> {
     pub fn has_name(&self, name: &str) -> bool
         // The result is true exactly where one of the host's names is this one, in capital or small
         // letters.
-        ensures { result ≡ list_any (is_same_name name.now) (fields_of self.now.names.now) }
+        ensures { result ≡ list_any (is_same_name name.now) (names_among (fields_of self.now.fields.now)) }
     {
-        has_name(self.names, name)
+        has_name(self.fields, name)
     }
 
     /// Whether the host is this one: one of its names is `self`.
     pub fn is_own(&self) -> bool
         // The result is true exactly where one of the names is `self`, in capital or small letters.
-        ensures { result ≡ list_any is_own_name (fields_of self.now.names.now) }
+        ensures { result ≡ list_any is_own_name (names_among (fields_of self.now.fields.now)) }
     {
-        has_name(self.names, OWN_NAME)
+        has_name(self.fields, OWN_NAME)
     }
 }
 

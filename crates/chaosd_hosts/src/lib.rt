@@ -10,6 +10,7 @@ mod fields;
 mod following;
 mod host;
 mod kept;
+mod keys;
 mod names;
 mod numbers;
 mod reading;

@@ -4,11 +4,11 @@ ghost use Rattle.std.specs.List.{list_any};
 ghost use Rattle.std.specs.Option.{option_to_list};
 ghost use Rattle.std.specs.Result.{result_map_both};
 ghost use Rattle.chaos_link.specs.declared.limits.TheConstants.{MAX_PEERS};
-ghost use Rattle.chaosd_hosts.specs.Fields.{fields_of};
+ghost use Rattle.chaosd_hosts.specs.Fields.{fields_of, names_among};
 ghost use Rattle.chaosd_hosts.specs.Table.{fault_view, first_taken, followed_of, host_named, host_view, is_taken, knows, no_hosts, peer_of_host, peers_of, refusal_view, table_of, with_bridge, with_host, with_line, with_other, with_self};
 
 use crate::fault::{Reason, Refusal, TableFault};
-use crate::fields::{before_comment, has_name, next_field};
+use crate::fields::{before_comment, has_name, next_field, next_name};
 use crate::host::{Host, MAX_SELVES, find_named, followed_among, has_address};
 use crate::names::is_own_name;
 use crate::reading::{bridge_in, host_in, is_star};
@@ -142,18 +142,19 @@ impl<'a> HostsTable<'a> {
     /// Whether a name is taken, in front of these names: a host has the name, or the name stands
     /// there again. `self` is free.
     fn is_taken(&self, name: &str, behind: &str) -> bool
-        ensures { result ≡ is_taken self.now name.now (fields_of behind.now) }
+        ensures { result ≡ is_taken self.now name.now (names_among (fields_of behind.now)) }
     {
         !is_own_name(name) && (self.find(name).is_some() || has_name(behind, name))
     }
 
-    /// The first of these names that a host has already, or that stands there again.
+    /// The first name among these fields that a host has already, or that stands there again.
     #[tactic(auto, unfolding(crate::specs::Table::first_taken))]
-    fn first_taken<'n>(&self, names: &'n str) -> Option<&'n str>
-        ensures { option_map (λ name. name.now) result ≡ first_taken self.now (fields_of names.entry.now) }
+    fn first_taken<'n>(&self, fields: &'n str) -> Option<&'n str>
+        ensures { option_map (λ name. name.now) result
+            ≡ first_taken self.now (names_among (fields_of fields.entry.now)) }
     {
-        let mut rest = names;
-        while let Some((name, behind)) = next_field(rest) {
+        let mut rest = fields;
+        while let Some((name, behind)) = next_name(rest) {
             if self.is_taken(name, behind) {
                 return Some(name);
             }
@@ -202,7 +203,7 @@ impl<'a> HostsTable<'a> {
         if self.knows(host.address) {
             return Err(Refusal::new(Reason::AddressTwice, word));
         }
-        if let Some(name) = self.first_taken(host.names) {
+        if let Some(name) = self.first_taken(host.fields) {
             return Err(Refusal::new(Reason::NameTwice, name));
         }
         if host.is_own() {
