@@ -26,6 +26,8 @@ BAD_PEERS = [
 CARRIAGE_FORM = "1 or 2"
 ONE_PACKET = "can't be used with '--chudp', because a CHUDP datagram carries one packet"
 NEEDS_CHUDP = "needs '--chudp', because only CHUDP names a bridge"
+OWN_FORM = "can't be used with '--chudp', because a key needs datagrams of this program's own form"
+TABLE_KEYS = "can't be used with a hosts table: write key=FILE into the table, on the line of each host that has the key"
 BRIDGE_ONCE_FORM = "at most one bridge"
 CONTACT_FORM = "1 to 64 printable ASCII characters, without a space"
 WINDOW_FORM = "a decimal number from 1 to 64, without leading zeros"
@@ -101,6 +103,7 @@ HELP = {
         "                    turn takes some 10 ms [default: 1000000000]\n",
         "--chudp             Use CHUDP, the framing of cbridge and other Chaosnet\n",
         "--bridge <ADDRESS>  Name ADDRESS, the bridge's own Chaosnet address, as\n",
+        "--key <FILE>        Seal the datagrams of each PEER with the key in FILE:\n",
         "--window <N>        Give each connection windows of N packets, 1 to 64:\n",
         "                    a client may have N commands in flight [default: 13]\n",
         "--retransmit <MS>   Retransmit unacknowledged packets after MS\n                          milliseconds, 20 to 60000 [default: 500]\n",
@@ -114,6 +117,7 @@ HELP = {
         "  chaosd serve --chudp --bridge 3040 401 0.0.0.0:42042 files '*=192.0.2.1:42042'\n",
     ],
     "ask --help": [
+        "--key <FILE>         Seal datagrams with the key in FILE, which the server\n",
         "--contact <NAME>     Ask for the contact NAME: 1 to 64 printable ASCII\n                           characters without a space [default: FILE]\n",
         "-t, --timeout <SECONDS>  Wait up to SECONDS for each reply, 1 to 3600\n",
         "-q, --quiet              Report only what failed\n",
@@ -373,6 +377,15 @@ class Line(Case):
         for option in [["--chudp"], ["--bridge", "3040"]]:
             ended = run(["loop", *option])
             self.check(f"loop has no {option[0]}", ended.problems(BAD_LINE, b"", [f"unexpected argument '{option[0]}' found".encode()]))
+
+    def test_a_key_is_for_own_datagrams_and_not_beside_a_served_table(self):
+        served = ["serve", "401", "127.0.0.1:1", "d"]
+        for words in [served, ["ask", "402", "127.0.0.1:1", "401"], ["put", *ADDRESSES, "A"], ["rename", "lispm:A", "B"]]:
+            is_misfit(self, [words[0], "--chudp", "--key", "k", *words[1:]], "--key k", OWN_FORM)
+        is_misfit(self, ["serve", "--key", "k", "d"], "--key k", TABLE_KEYS)
+        for name in ["loop", "show", "lab", "filelab"]:
+            ended = run([name, "--key", "k"])
+            self.check(f"{name} has no key", ended.problems(BAD_LINE, b"", [b"unexpected argument '--key' found"]))
 
     def test_a_contact_is_printable_and_short(self):
         for text in BAD_CONTACTS:

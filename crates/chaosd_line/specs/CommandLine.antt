@@ -48,7 +48,8 @@ carriage_option = with_default (codes "carriage") (codes "1")
 
 -- of all that send packets to other hosts
 abbrev pub framing_rules : List Rule → List Rule
-framing_rules more = carriage_option ∷ flag (codes "chudp") ∷ optional (codes "bridge") ∷ more
+framing_rules more =
+    carriage_option ∷ flag (codes "chudp") ∷ optional (codes "bridge") ∷ optional (codes "key") ∷ more
 
 abbrev pub contact_option : Rule
 contact_option = with_default (codes "contact") (codes "FILE")

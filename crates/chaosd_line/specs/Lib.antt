@@ -4,6 +4,7 @@ pub mod Files
 pub mod Followed
 pub mod Framings
 pub mod Hosts
+pub mod Keys
 pub mod Lines
 pub mod Places
 pub mod Plan

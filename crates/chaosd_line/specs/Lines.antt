@@ -8,6 +8,7 @@ use Rattle.chaos_link.specs.declared.carriage.Carriage.{Carriage}
 use Rattle.chaosd_line.specs.CommandLine.{chaosd}
 use Rattle.chaosd_line.specs.Files.{file_view, fits_output, put_files}
 use Rattle.chaosd_line.specs.Framings.{framing_at}
+use Rattle.chaosd_line.specs.Keys.{key_at, serve_key_at}
 use Rattle.chaosd_line.specs.Places.{hosts_in, words_in}
 use Rattle.chaosd_line.specs.Remote.{file_paths, local_words, new_path, old_path, output_with, remote_words}
 use Rattle.chaosd_line.specs.Targets.{ask_target, ask_view, call_target, follows, place_view, serve_folder, serve_place, target_view}
@@ -78,6 +79,7 @@ show = field (λ s. s.is_file) (given flag_of (codes "file"))
 unfoldable pub serve : Reading Serve
 serve = field (λ s. s.turns) (given turns_of (codes "turns"))
     & field (λ s. s.framing) framing_at
+    & field (λ s. option_map (λ t. t.now) s.key) serve_key_at
     & field (λ s. s.window) (given window_of (codes "window"))
     & field (λ s. s.retransmit) (given retransmit_of (codes "retransmit"))
     & field (λ s. s.is_quiet) (given flag_of (codes "quiet"))
@@ -91,6 +93,7 @@ serve = field (λ s. s.turns) (given turns_of (codes "turns"))
 
 unfoldable pub ask : Reading Ask
 ask = field (λ a. a.framing) framing_at
+    & field (λ a. option_map (λ t. t.now) a.key) key_at
     & field (λ a. a.contact.now) (given (word_of word.Contact) (codes "contact"))
     & field (λ a. a.timeout) (given_if seconds_of (codes "timeout"))
     & field (λ a. a.retransmit) (given retransmit_of (codes "retransmit"))
@@ -104,6 +107,7 @@ ask = field (λ a. a.framing) framing_at
 -- of all that call a server, but for the server
 unfoldable pub call_options : Reading Calling
 call_options = field (λ c. c.framing) framing_at
+    & field (λ c. option_map (λ t. t.now) c.key) key_at
     & field (λ c. c.contact.now) (given (word_of word.Contact) (codes "contact"))
     & field (λ c. c.login.now) (given (word_of word.Login) (codes "login"))
     & field (λ c. c.window) (given window_of (codes "window"))

@@ -76,6 +76,14 @@ pub(crate) const ONE_PACKET: &str =
 /// Why a bridge's address doesn't go with the other words.
 pub(crate) const NEEDS_CHUDP: &str = "needs '--chudp', because only CHUDP names a bridge";
 
+/// Why a key doesn't go with CHUDP.
+pub(crate) const OWN_FORM: &str =
+    "can't be used with '--chudp', because a key needs datagrams of this program's own form";
+
+/// Why a key doesn't go with a hosts table that is served.
+pub(crate) const TABLE_KEYS: &str =
+    "can't be used with a hosts table: write key=FILE into the table, on the line of each host that has the key";
+
 /// Why a local file that is no folder doesn't go with the other words.
 pub(crate) const ONE_PATH: &str = "takes one PATH alone, unless it ends with /";
 

@@ -11,6 +11,7 @@ ghost use Rattle.chaosd_line.specs.Values.{given_if, seconds_of};
 use crate::bad_value::BadValue;
 use crate::form::{optional_value, value, word};
 use crate::framings::framing_of;
+use crate::keys::key_in;
 use crate::line::{Calling, Delete, Rename};
 use crate::line_problem::LineProblem;
 use crate::places::{hosts_in, words_in};
@@ -44,6 +45,7 @@ pub(crate) fn calling_of<'a>(
         (call_target place (map (λ t. t.now) words.now)) }
 {
     let framing = framing_of(matches)?;
+    let key = key_in(matches)?;
     let contact = word(matches, "contact", Word::Contact)?;
     let login = word(matches, "login", Word::Login)?;
     let window = value(matches, "window", &WINDOW)? as u16;
@@ -52,6 +54,7 @@ pub(crate) fn calling_of<'a>(
     let hosts = hosts_in(matches)?;
     Ok(Calling {
         framing,
+        key,
         contact,
         login,
         window,

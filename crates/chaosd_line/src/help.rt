@@ -175,6 +175,18 @@ Name ADDRESS, the bridge's own Chaosnet address, as
 the next hop of packets that go through the bridge;
 needs --chudp";
 
+/// Help of `--key`.
+pub(crate) const KEY: &str = "\
+Seal datagrams with the key in FILE, which the server
+has too: 64 hexadecimal digits, in a file that nobody
+else can read; not with --chudp";
+
+/// Help of `serve --key`.
+pub(crate) const SERVE_KEY: &str = "\
+Seal the datagrams of each PEER with the key in FILE:
+64 hexadecimal digits, in a file that nobody else can
+read; not with --chudp, and not with a hosts table";
+
 /// Help of `--contact`.
 pub(crate) const CONTACT: &str = "\
 Ask for the contact NAME: 1 to 64 printable ASCII

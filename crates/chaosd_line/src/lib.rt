@@ -22,6 +22,7 @@ mod framing;
 mod framings;
 mod help;
 mod host_names;
+mod keys;
 mod line;
 mod line_problem;
 mod lines;

@@ -62,6 +62,9 @@ pub struct Serve<'a> {
     pub turns: u32,
     /// How packets stand in datagrams.
     pub framing: Framing,
+    /// The file of the key that the server and each of its peers have, where it is given. There is
+    /// none in CHUDP, and none where the hosts table is served.
+    pub key: Option<&'a str>,
     /// The packets that each of the two windows of its connections has, 1 to 64.
     pub window: u16,
     /// The milliseconds after which its connections retransmit packets, 20 to 60,000.
@@ -89,6 +92,9 @@ pub struct Serve<'a> {
 pub struct Ask<'a> {
     /// How packets stand in datagrams.
     pub framing: Framing,
+    /// The file of the key that this host and the host to ask have, where it is given. There is
+    /// none in CHUDP.
+    pub key: Option<&'a str>,
     /// The contact name that it asks for: 1 to 64 printable characters of ASCII, none of them a
     /// space.
     pub contact: &'a str,
@@ -116,6 +122,9 @@ pub struct Ask<'a> {
 pub struct Calling<'a> {
     /// How packets stand in datagrams.
     pub framing: Framing,
+    /// The file of the key that this host and the server have, where it is given. There is none in
+    /// CHUDP.
+    pub key: Option<&'a str>,
     /// The contact name that it asks for: 1 to 64 printable characters of ASCII, none of them a
     /// space.
     pub contact: &'a str,

@@ -11,6 +11,7 @@ use crate::ends::ServePlace;
 use crate::followed::first_followed;
 use crate::form::{value, word};
 use crate::framings::framing_of;
+use crate::keys::{key_in, serve_key_in};
 use crate::line::{Ask, Line, Serve, Show};
 use crate::line_problem::LineProblem;
 use crate::places::{hosts_in, words_from, words_in};
@@ -44,6 +45,7 @@ fn serve_of<'a>(matches: &ArgMatches<'a>) -> Result<Serve<'a>, BadValue<'a>>
     let words = words_in(matches);
     let turns = value(matches, "turns", &TURNS)? as u32;
     let framing = framing_of(matches)?;
+    let key = serve_key_in(matches)?;
     let window = value(matches, "window", &WINDOW)? as u16;
     let retransmit = value(matches, "retransmit", &RETRANSMIT)?;
     let is_quiet = value(matches, "quiet", &Flag)?;
@@ -60,6 +62,7 @@ fn serve_of<'a>(matches: &ArgMatches<'a>) -> Result<Serve<'a>, BadValue<'a>>
     Ok(Serve {
         turns,
         framing,
+        key,
         window,
         retransmit,
         is_quiet,
@@ -80,6 +83,7 @@ fn ask_of<'a>(matches: &ArgMatches<'a>) -> Result<Ask<'a>, BadValue<'a>>
 {
     Ok(Ask {
         framing: framing_of(matches)?,
+        key: key_in(matches)?,
         contact: word(matches, "contact", Word::Contact)?,
         timeout: timeout_of(matches)?,
         retransmit: value(matches, "retransmit", &RETRANSMIT)?,

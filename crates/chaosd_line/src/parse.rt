@@ -62,6 +62,8 @@ pub fn parse_line<'a, S: AsStr>(alloc: Global, words: &'a [S]) -> Result<Line<'a
     // A line that sends packets to other hosts has their framing. Without `--chudp` the framing is
     // the carriage, 1 or 2, and no bridge's address is given. With `--chudp` the carriage is 1, and
     // the framing has the bridge's address, if there is one.
+    // A line that sends packets to other hosts has the file of a key, if it is given. With `--chudp`
+    // none is given, and none for a `serve` that isn't in the long form.
     // A line is in the long form if the first of its words that aren't options has digits alone. It
     // then has this host's Chaosnet address and UDP address, and no hosts table is given. Any other
     // line has the name of a host: the word of `ask`, what stands before the colon of the last word

@@ -53,6 +53,8 @@ const CHUDP: Argument<'static> = Argument("chudp", Arity::Flag, help::CHUDP);
 
 const BRIDGE: Argument<'static> = Argument("bridge", Arity::Optional("ADDRESS"), help::BRIDGE);
 
+const KEY: Argument<'static> = Argument("key", Arity::Optional("FILE"), help::KEY);
+
 const CONTACT: Argument<'static> = Argument(
     "contact",
     Arity::Default("NAME", "FILE"),
@@ -108,8 +110,8 @@ const AS: Argument<'static> = Argument("as", Arity::Optional("PATH"), help::AS);
 macro_rules! call_words {
     ($verbose:expr, [$($option:expr),*], $words:expr) => {
         &[
-            CARRIAGE, CHUDP, BRIDGE, CONTACT, LOGIN, WINDOW, TIMEOUT, ANY_SOURCE, QUIET, $verbose,
-            $($option,)* HOSTS, Argument("WORD", Arity::Several, $words),
+            CARRIAGE, CHUDP, BRIDGE, KEY, CONTACT, LOGIN, WINDOW, TIMEOUT, ANY_SOURCE, QUIET,
+            $verbose, $($option,)* HOSTS, Argument("WORD", Arity::Several, $words),
         ]
     };
 }
@@ -164,6 +166,7 @@ static SERVE: Sub = Sub {
         CARRIAGE,
         CHUDP,
         BRIDGE,
+        Argument("key", Arity::Optional("FILE"), help::SERVE_KEY),
         Argument("window", Arity::Default("N", "13"), help::SERVE_WINDOW),
         RETRANSMIT,
         Argument("quiet", Arity::ShortFlag('q'), help::SERVE_QUIET),
@@ -186,6 +189,7 @@ static ASK: Sub = Sub {
         CARRIAGE,
         CHUDP,
         BRIDGE,
+        KEY,
         CONTACT,
         Argument(
             "timeout",
