@@ -3,7 +3,8 @@
 //! refused.
 //!
 //! It opens nothing. A server reports to a [`Journal`], which writes lines. What is known of hosts is
-//! kept by a [`PeerSources`], which is plain data.
+//! kept by a [`PeerSources`], which is plain data. What a sealed socket refuses is logged by a
+//! [`RefusalLog`].
 #![tactic(auto)]
 
 mod change;
@@ -13,6 +14,8 @@ mod limiter;
 mod lines;
 mod peer_sources;
 mod place;
+mod refusal_log;
+mod refusals;
 mod server_log;
 mod warning;
 
@@ -22,4 +25,6 @@ pub use level::{Level, TOPICS, Topic};
 pub use limiter::{Limiter, Tally};
 pub use lines::LogLines;
 pub use peer_sources::{PeerSources, SourceReport};
+pub use refusal_log::RefusalLog;
+pub use refusals::{MAX_REFUSED, QUIET_SECONDS, RefusalReport, RefusalTally, Refusals, Refused};
 pub use warning::{Warning, bridge_warning_of, warning_of};
