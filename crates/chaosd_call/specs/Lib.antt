@@ -4,6 +4,7 @@ pub mod CopyRun
 pub mod Exit
 pub mod Hearing
 pub mod Hops
+pub mod Key
 pub mod Patience
 pub mod ProgressText
 pub mod Routes

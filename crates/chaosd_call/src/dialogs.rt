@@ -65,12 +65,13 @@ where
         return status;
     }
     let calling = work.calling();
-    let opened = match open_ends(rt, calling.target, calling.hosts) {
+    let opened = match open_ends(rt, calling) {
         Ok(opened) => opened,
         Err(status) => return status,
     };
     let ends = opened.ends;
-    let waiting = Waiting::new(rt, ends.server, work.shows_waiting(is_terminal));
+    let is_reported = work.shows_waiting(is_terminal);
+    let waiting = Waiting::new(rt, ends.server, is_reported, opened.key.is_some());
     let caller = Caller {
         waiting: &waiting,
         client: Peer {
@@ -79,7 +80,10 @@ where
         },
         is_terminal,
     };
-    let mut link = link_to_server(rt, opened, calling.hears_anybody);
+    let mut link = match link_to_server(rt, opened, calling.hears_anybody) {
+        Ok(link) => link,
+        Err(status) => return status,
+    };
     match calling.framing {
         Framing::Own(_) => work_over(rt, &mut link, &ends, &caller, work),
         Framing::Chudp(bridge) => {

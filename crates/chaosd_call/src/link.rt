@@ -1,21 +1,63 @@
 //! The link of a client to its server, over a socket.
-ghost use Rattle.std.specs.Prelude.{◌≡◌};
+ghost use Rattle.std.specs.Prelude.{◌≡◌, IfOk, option_map};
 ghost use Rattle.chaosd_call.specs.Hearing.{alone_heard};
+ghost use Rattle.chaosd_call.specs.Key.{SealsWith, keys_with};
 
+use crate::exit_status::ExitStatus;
+use crate::keys::{HostKey, Key};
 use crate::open_ends::OpenEnds;
 use crate::peer_socket::PeerSocket;
+use crate::seal_words::SealWords;
+use crate::seals::seals_of;
 use chaos_link::{Peer, Peers, UdpLink};
+use chaos_node::ReadableClock;
+use chaos_sealed_socket::SealedSocket;
 use std::net::SocketAddrV4;
 
-/// A link over the socket of a call, to its server.
-pub fn link_to_server<R: Eprint>(
+/// A client's socket, which seals over the socket within what goes to its server.
+pub type ClientSocket<'a, R, S> = SealedSocket<S, SealWords<'a, R>>;
+
+/// A link over the socket of a call, to its server. That the clock can't be read is reported, and
+/// the error is the status.
+pub fn link_to_server<R: ReadableClock + Eprint>(
     rt: &R,
     opened: OpenEnds,
     hears_anybody: bool,
-) -> UdpLink<PeerSocket<'_, R>> {
-    let server = opened.ends.server;
-    let heard = heard_alone(server, hears_anybody);
-    link_to(PeerSocket::new(rt, opened.socket, heard), server)
+) -> Result<UdpLink<ClientSocket<'_, R, PeerSocket<'_, R>>>, ExitStatus> {
+    let OpenEnds { ends, key, socket } = opened;
+    let heard = heard_alone(ends.server, hears_anybody);
+    let socket = PeerSocket::new(rt, socket, heard);
+    let sealed = sealed_to(rt, socket, ends.address, ends.server.address, key)?;
+    Ok(link_to(sealed, ends.server))
+}
+
+/// A client's socket that seals, over this socket, what goes to its server, if the two have a key.
+/// That the clock can't be read is reported, and the error is the status.
+pub fn sealed_to<R: ReadableClock + Eprint, S: Drop>(
+    rt: &R,
+    socket: S,
+    me: u16,
+    server: u16,
+    key: Option<Key>,
+) -> Result<ClientSocket<'_, R, S>, ExitStatus>
+    // The socket is over the given socket.
+    ensures socket { IfOk result (λ sealed. sealed.socket ≡ socket) }
+    // It seals with the key, if there is one, what goes to the server, and nothing else.
+    ensures seals { IfOk result (λ sealed.
+        SealsWith (R.dates rt.now) me (keys_with server key) sealed.sealing.seals) }
+{
+    let seals = match key {
+        Some(key) => seals_of(
+            rt,
+            me,
+            &[HostKey {
+                address: server,
+                key,
+            }],
+        )?,
+        None => seals_of(rt, me, &[])?,
+    };
+    Ok(SealedSocket::new(socket, seals, SealWords::new(rt, me)))
 }
 
 /// The UDP address that a client hears alone.

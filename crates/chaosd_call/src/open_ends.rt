@@ -4,12 +4,13 @@ ghost use Rattle.chaosd_hosts.specs.Table.{table_of};
 ghost use Rattle.chaosd_call.specs.Called.{IsNamed, IsServerIn, LeadsTo};
 
 use crate::exit_status::ExitStatus;
+use crate::keys::{Key, key_in, key_of_host, key_of_line};
 use crate::run_ends::report_unopened;
 use crate::table_file::{TableFile, find_table};
 use chaos_file::PrintedName;
 use chaos_link::Peer;
 use chaosd_hosts::{Host, HostsTable};
-use chaosd_line::{Ends, Target};
+use chaosd_line::{Calling, Ends, Framing, Target};
 use std::fmt::Display;
 use std::fs::{File, Files};
 use std::io;
@@ -17,11 +18,25 @@ use std::io::ErrorKind;
 use std::net::{Ipv4Addr, Net, SocketAddr, SocketAddrV4, UdpSocket};
 use std::rt::Env;
 
-/// The ends of a call, and the socket at this host's own end.
+/// What a line that calls a host says of its datagrams, and where to look for the host.
+#[derive(Clone, Copy)]
+pub struct CallWords<'a> {
+    /// How packets stand in datagrams.
+    pub framing: Framing,
+    /// The file of the key that this host and the other one have, where it is given. It stands for
+    /// the file that the hosts table names.
+    pub key: Option<&'a str>,
+    /// The hosts table, where it is given.
+    pub hosts: Option<&'a str>,
+}
+
+/// The ends of a call, the key of the two hosts, and the socket at this host's own end.
 #[derive(Drop)]
 pub struct OpenEnds {
     /// The ends.
     pub ends: Ends,
+    /// The key that this host and the server have, if they have one.
+    pub key: Option<Key>,
     /// The socket, which is bound to the UDP address of this host's end.
     pub socket: UdpSocket,
 }
@@ -113,14 +128,14 @@ fn report_no_self<R: Eprint>(rt: &R, file: &str, taken: Option<io::Error>) -> Ex
     ExitStatus::Fault
 }
 
-/// Opens the first of this host's own entries whose UDP address is free.
+/// The first of this host's own entries whose UDP address is free, and a socket there.
 fn open_own<R: Eprint + Net>(
     rt: &R,
     file: &str,
     selves: &[Host<'_>],
     server: Peer,
-) -> Result<OpenEnds, ExitStatus>
-    ensures { IfOk result (λ opened. opened.ends.server ≡ server) }
+) -> Result<(Ends, UdpSocket), ExitStatus>
+    ensures { IfOk result (λ opened. opened.0.server ≡ server) }
 {
     let mut taken = None;
     for own in selves {
@@ -130,7 +145,7 @@ fn open_own<R: Eprint + Net>(
         match bind_at(rt, asked) {
             Ok((socket, at)) => {
                 if let Some(ends) = Ends::new(own.address, at, server) {
-                    return Ok(OpenEnds { ends, socket });
+                    return Ok((ends, socket));
                 }
             }
             Err(error) if error.kind() == ErrorKind::AddrInUse => taken = Some(error),
@@ -142,31 +157,44 @@ fn open_own<R: Eprint + Net>(
 
 /// Opens this host's end of a call of the server with this name in the hosts table. What is missing
 /// is reported, and the error is the status.
-pub fn open_named<R>(rt: &R, name: &str, hosts: Option<&str>) -> Result<OpenEnds, ExitStatus>
+pub fn open_named<R>(rt: &R, name: &str, words: CallWords<'_>) -> Result<OpenEnds, ExitStatus>
 where
     R: AllocGlobal + Env + Eprint + Files<File = File> + Net,
     // The server of the call is the host with this name in a table that some text writes: at the
     // host's UDP address, or at the bridge's where the table has none for the host.
     ensures { IfOk result (λ opened. IsNamed name.now opened.ends.server) }
 {
-    let file = table_of_line(rt, hosts)?;
+    let file = table_of_line(rt, words.hosts)?;
     let table = hosts_in(rt, &file)?;
     let server = server_in(rt, file.name.as_str(), &table, name)?;
-    open_own(rt, file.name.as_str(), table.selves(), server)
+    let key = match (words.key, table.find(name)) {
+        (Some(given), _) => Some(key_in(rt, given)?),
+        (None, Some(host)) => key_of_host(rt, &file, &host, words.framing)?,
+        (None, None) => None,
+    };
+    let (ends, socket) = open_own(rt, file.name.as_str(), table.selves(), server)?;
+    Ok(OpenEnds { ends, key, socket })
 }
 
 /// Opens this host's end of a call. What is missing is reported, and the error is the status.
-pub fn open_ends<R>(rt: &R, target: Target<'_>, hosts: Option<&str>) -> Result<OpenEnds, ExitStatus>
+pub fn open_ends<R>(rt: &R, calling: &Calling<'_>) -> Result<OpenEnds, ExitStatus>
 where
     R: AllocGlobal + Env + Eprint + Files<File = File> + Net,
     // The call has the ends that the line has, or its server is the host with the line's name.
-    ensures { IfOk result (λ opened. LeadsTo target.entry opened.ends) }
+    ensures { IfOk result (λ opened. LeadsTo calling.now.target opened.ends) }
 {
-    match target {
-        Target::Name(name) => open_named(rt, name, hosts),
-        Target::Addresses(ends) => match UdpSocket::bind(rt, SocketAddr::V4(ends.socket)) {
-            Ok(socket) => Ok(OpenEnds { ends, socket }),
-            Err(error) => Err(report_unopened(rt, &ends.socket, &error)),
-        },
+    let words = CallWords {
+        framing: calling.framing,
+        key: calling.key,
+        hosts: calling.hosts,
+    };
+    let ends = match calling.target {
+        Target::Name(name) => return open_named(rt, name, words),
+        Target::Addresses(ends) => ends,
+    };
+    let key = key_of_line(rt, words.key)?;
+    match UdpSocket::bind(rt, SocketAddr::V4(ends.socket)) {
+        Ok(socket) => Ok(OpenEnds { ends, key, socket }),
+        Err(error) => Err(report_unopened(rt, &ends.socket, &error)),
     }
 }

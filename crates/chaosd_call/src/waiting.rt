@@ -19,6 +19,12 @@ const ASKED_EVERY: u64 = 250;
 /// there by then.
 const GONE_AFTER: u64 = 1_000;
 
+/// How the question about a server ends that doesn't answer a client with a key.
+const WITH_KEY: &str = ", with the same key?";
+
+/// The same for a client without a key.
+const WITHOUT_KEY: &str = "? A server that has a key for this host answers under seal alone";
+
 /// What a wait has come to. Moments are milliseconds.
 #[derive(Clone, Copy)]
 struct Wait {
@@ -57,6 +63,8 @@ pub struct Waiting<'a, R> {
     rt: &'a R,
     server: Peer,
     is_reported: bool,
+    /// Whether the client and the server have a key.
+    has_key: bool,
     probe: Option<UdpSocket>,
     wait: Cell<Wait>,
 }
@@ -72,7 +80,7 @@ fn probe_of<R: Net>(rt: &R, server: SocketAddrV4) -> io::Result<UdpSocket> {
 
 impl<'a, R: Eprint> Waiting<'a, R> {
     /// A wait for this server that hasn't begun. What fails of its probe is passed over.
-    pub fn new(rt: &'a R, server: Peer, is_reported: bool) -> Self
+    pub fn new(rt: &'a R, server: Peer, is_reported: bool, has_key: bool) -> Self
     where
         R: Net,
     {
@@ -80,6 +88,7 @@ impl<'a, R: Eprint> Waiting<'a, R> {
             rt,
             server,
             is_reported,
+            has_key,
             probe: probe_of(rt, server.socket).ok(),
             wait: Cell::new(Wait::BEGUN),
         }
@@ -119,8 +128,9 @@ impl<'a, R: Eprint> Waiting<'a, R> {
         if why.is_open || why.end.is_some() {
             return eprintln!(self.rt; "chaosd: {lead}{why}");
         }
+        let hint = if self.has_key { WITH_KEY } else { WITHOUT_KEY };
         eprintln!(self.rt;
-            "chaosd: {lead}{why}: does a server run at {server}, and does it have {address:o}={socket} as a PEER?"
+            "chaosd: {lead}{why}: does a server run at {server}, and does it have {address:o}={socket} as a PEER{hint}"
         )
     }
 

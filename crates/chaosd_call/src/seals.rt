@@ -1,0 +1,56 @@
+//! What a run seals with.
+ghost use Rattle.std.specs.Prelude.{IfOk, IfSome};
+ghost use Rattle.chaosd_call.specs.Key.{IsSession, SealsWith};
+
+use crate::exit_status::ExitStatus;
+use crate::keys::HostKey;
+use chaos_node::ReadableClock;
+use chaos_seal::Seals;
+use chaosd_io::RunFault;
+
+/// The session of a run that begins now: the nanoseconds since 1970, so that a later run has a
+/// greater one.
+fn session_now<R: ReadableClock>(rt: &R) -> Option<u64>
+    ensures { IfSome result (R.dates rt.now) }
+{
+    let date = rt.date().ok()?;
+    u64::try_from(date.as_nanos()).ok()
+}
+
+/// The session of a run with these keys. A run without keys seals nothing, and needs no clock.
+fn session_of<R: ReadableClock + Eprint>(rt: &R, keys: &[HostKey]) -> Result<u64, ExitStatus>
+    ensures { IfOk result (IsSession (R.dates rt.now) keys.now) }
+{
+    if keys.is_empty() {
+        return Ok(0);
+    }
+    match session_now(rt) {
+        Some(session) => Ok(session),
+        None => {
+            let fault = RunFault::ClockFault;
+            let _ = eprintln!(rt; "chaosd: {fault}");
+            Err(ExitStatus::of_fault(fault))
+        }
+    }
+}
+
+/// What the host with this address seals with, in a run that begins now, where it has these keys.
+/// That the clock can't be read is reported, and the error is the status.
+pub fn seals_of<R: ReadableClock + Eprint>(
+    rt: &R,
+    me: u16,
+    keys: &[HostKey],
+) -> Result<Seals, ExitStatus>
+    // The host seals at its address with each of the keys, and nothing was sealed or heard yet. The
+    // session is a time that the clock may show, in nanoseconds since 1970, or 0 without keys.
+    ensures { IfOk result (SealsWith (R.dates rt.now) me keys.now) }
+{
+    let mut seals = Seals::new(me, session_of(rt, keys)?);
+    for key in keys {
+        if let Err(fault) = seals.add(key.address, &key.key) {
+            let _ = eprintln!(rt; "chaosd: host {:o}: {fault}", key.address);
+            return Err(ExitStatus::BadLine);
+        }
+    }
+    Ok(seals)
+}
