@@ -1,6 +1,6 @@
 //! The keys of a table, and of the table that is read behind it.
 ghost use Rattle.std.specs.Prelude.{◌≡◌, map, option_map};
-ghost use Rattle.chaosd_hosts.specs.Keys.{has_keys_of, is_same_file, keeps_keys, key_at};
+ghost use Rattle.chaosd_hosts.specs.Keys.{are_keyed, has_keys_of, is_alike, is_same_file, is_sealed, keeps_keys, key_at};
 ghost use Rattle.chaosd_hosts.specs.Table.{host_view};
 
 use crate::host::Host;
@@ -42,14 +42,47 @@ fn keeps_keys(hosts: &[Host], others: &[Host]) -> bool
     true
 }
 
+/// Whether each of these hosts has a key.
+fn are_keyed(hosts: &[Host]) -> bool
+    ensures { result ≡ are_keyed (map host_view hosts.now) }
+{
+    for host in hosts {
+        if host.key.is_none() {
+            return false;
+        }
+    }
+    true
+}
+
+/// Whether both are so, or neither.
+fn is_alike(one: bool, other: bool) -> bool
+    ensures { result ≡ is_alike one other }
+{
+    if one { other } else { !other }
+}
+
 impl HostsTable<'_> {
-    /// Whether the hosts have the same keys in this table and in another one.
+    /// Whether all that is to be heard is sealed: there are other hosts, each has a key, and there
+    /// is no bridge.
+    #[tactic(auto, unfolding(crate::specs::Keys::is_sealed))]
+    pub fn is_sealed(&self) -> bool
+        // The result is true exactly where there is another host, each of them has a key, and the
+        // table has no bridge.
+        ensures { result ≡ is_sealed self.now }
+    {
+        !self.hosts().is_empty() && self.bridge().is_none() && are_keyed(self.hosts())
+    }
+
+    /// Whether the hosts have the same keys in this table and in another one, and both tables are
+    /// sealed or neither.
     #[tactic(auto, unfolding(crate::specs::Keys::has_keys_of))]
     pub fn has_keys_of(&self, other: &HostsTable<'_>) -> bool
         // The result is true exactly where each host of one of the tables has in the other the same
-        // key file, or no key in both.
+        // key file, or no key in both, and both tables are sealed or neither is.
         ensures { result ≡ has_keys_of self.now other.now }
     {
-        keeps_keys(self.hosts(), other.hosts()) && keeps_keys(other.hosts(), self.hosts())
+        is_alike(self.is_sealed(), other.is_sealed())
+            && keeps_keys(self.hosts(), other.hosts())
+            && keeps_keys(other.hosts(), self.hosts())
     }
 }
