@@ -1,5 +1,5 @@
 -- Keys, and the files that have them.
-use Rattle.std.specs.Prelude.{◌≡◌, ◌≢◌, ◌-◌, ◌∷◌, [], ℕ, List, length, map, drop, take, bit_and, Option, Some, None, unwrap_or, Result, Ok}
+use Rattle.std.specs.Prelude.{◌≡◌, ◌≢◌, ◌-◌, ◌∷◌, [], ℕ, Bool, List, length, map, drop, take, bit_and, Option, Some, None, unwrap_or, Result, Ok}
 use Rattle.std.specs.Char.{is_ascii_whitespace}
 use Rattle.std.specs.Fs.{IsFile, file_type, metadata_mode}
 use Rattle.std.specs.List.{prefix_len, suffix_len}
@@ -53,9 +53,9 @@ abbrev pub IsSession : (ℕ → Type 0) → List HostKey → ℕ → Type 0
 IsSession dates [] session = session ≡ 0
 IsSession dates (key ∷ keys) session = dates session
 
--- at its own address, with each of these keys, and nothing sealed or heard yet
-abbrev pub SealsWith : (ℕ → Type 0) → ℕ → List HostKey → SealsView → Type 0
-SealsWith dates me keys seals = (seals.me ≡ me) × IsSession dates keys seals.session
+-- at its own address, with each of these keys, closed or not, and nothing sealed or heard yet
+abbrev pub SealsWith : (ℕ → Type 0) → ℕ → List HostKey → Bool → SealsView → Type 0
+SealsWith dates me keys closed seals = (seals.me ≡ me) × IsSession dates keys seals.session × (seals.closed ≡ closed)
     × (seals.peers ≡ map (λ k. new_peer k.address k.key) keys)
 
 -- the key of a call, which the server has too

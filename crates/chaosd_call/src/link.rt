@@ -1,5 +1,5 @@
 //! The link of a client to its server, over a socket.
-ghost use Rattle.std.specs.Prelude.{◌≡◌, IfOk, option_map};
+ghost use Rattle.std.specs.Prelude.{◌≡◌, IfOk, is_some, option_map};
 ghost use Rattle.chaosd_call.specs.Hearing.{alone_heard};
 ghost use Rattle.chaosd_call.specs.Key.{SealsWith, keys_with};
 
@@ -42,9 +42,10 @@ pub fn sealed_to<R: ReadableClock + Eprint, S: Drop>(
 ) -> Result<ClientSocket<'_, R, S>, ExitStatus>
     // The socket is over the given socket.
     ensures socket { IfOk result (λ sealed. sealed.socket ≡ socket) }
-    // It seals with the key, if there is one, what goes to the server, and nothing else.
+    // It seals with the key, if there is one, what goes to the server, and nothing else. With a key
+    // it hears nobody in clear.
     ensures seals { IfOk result (λ sealed.
-        SealsWith (R.dates rt.now) me (keys_with server key) sealed.sealing.seals) }
+        SealsWith (R.dates rt.now) me (keys_with server key) (is_some key) sealed.sealing.seals) }
 {
     let seals = match key {
         Some(key) => seals_of(
@@ -54,8 +55,9 @@ pub fn sealed_to<R: ReadableClock + Eprint, S: Drop>(
                 address: server,
                 key,
             }],
+            true,
         )?,
-        None => seals_of(rt, me, &[])?,
+        None => seals_of(rt, me, &[], false)?,
     };
     Ok(SealedSocket::new(socket, seals, SealWords::new(rt, me)))
 }

@@ -1,5 +1,5 @@
 //! What a run seals with.
-ghost use Rattle.std.specs.Prelude.{IfOk, IfSome};
+ghost use Rattle.std.specs.Prelude.{◌≡◌, [], IfOk, IfSome};
 ghost use Rattle.chaosd_call.specs.Key.{IsSession, SealsWith};
 
 use crate::exit_status::ExitStatus;
@@ -34,18 +34,31 @@ fn session_of<R: ReadableClock + Eprint>(rt: &R, keys: &[HostKey]) -> Result<u64
     }
 }
 
-/// What the host with this address seals with, in a run that begins now, where it has these keys.
-/// That the clock can't be read is reported, and the error is the status.
+/// What the host with this address seals with in this session, where no host has a key yet.
+fn no_seals(me: u16, session: u64, is_closed: bool) -> Seals
+    ensures { result ≡ record { me = me; session = session; closed = is_closed; peers = [] } }
+{
+    let mut seals = Seals::new(me, session);
+    if is_closed {
+        seals.close();
+    }
+    seals
+}
+
+/// What the host with this address seals with, in a run that begins now, where it has these keys
+/// and hears others in clear unless it is closed. That the clock can't be read is reported, and the error is the status.
 pub fn seals_of<R: ReadableClock + Eprint>(
     rt: &R,
     me: u16,
     keys: &[HostKey],
+    is_closed: bool,
 ) -> Result<Seals, ExitStatus>
     // The host seals at its address with each of the keys, and nothing was sealed or heard yet. The
-    // session is a time that the clock may show, in nanoseconds since 1970, or 0 without keys.
-    ensures { IfOk result (SealsWith (R.dates rt.now) me keys.now) }
+    // session is a time that the clock may show, in nanoseconds since 1970, or 0 without keys. A
+    // closed host hears nobody in clear.
+    ensures { IfOk result (SealsWith (R.dates rt.now) me keys.now is_closed) }
 {
-    let mut seals = Seals::new(me, session_of(rt, keys)?);
+    let mut seals = no_seals(me, session_of(rt, keys)?, is_closed);
     for key in keys {
         if let Err(fault) = seals.add(key.address, &key.key) {
             let _ = eprintln!(rt; "chaosd: host {:o}: {fault}", key.address);
