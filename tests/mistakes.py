@@ -18,7 +18,8 @@ PIPES = {"stdin": subprocess.PIPE, "stdout": subprocess.PIPE, "stderr": subproce
 
 def unopened(server, client):
     """What is wanted of a client that no connection was opened for."""
-    return [b"no connection opened in ", b" ms: does a server run at %s, and does it have %s as a PEER?\n" % (server.encode(), client.encode())]
+    question = b" ms: does a server run at %s, and does it have %s as a PEER? A server that has a key for this host answers under seal alone\n"
+    return [b"no connection opened in ", question % (server.encode(), client.encode())]
 
 
 class Nobody(Case):

@@ -13,8 +13,9 @@ use chaos_link::{Link, Peer, Peers, UdpLink};
 use chaos_node::{Epoch, NodeFault};
 use chaosd_ask::{HandleName, NOBODY, Notes, ScriptEnd, ask_script};
 use chaosd_call::{
-    ExitStatus, OpenEnds, PeerSocket, Waiting, WaitingSocket, config_of, contact_of, has_input,
-    heard_alone, hops_of, open_named, patience_of, report_unopened,
+    CallWords, ExitStatus, Key, OpenEnds, PeerSocket, Waiting, WaitingSocket, config_of,
+    contact_of, has_input, heard_alone, hops_of, key_of_line, open_named, patience_of,
+    report_unopened, sealed_to,
 };
 use chaosd_io::RunFault;
 use chaosd_line::{Ask, AskEnds, AskTarget, Framing};
@@ -216,27 +217,69 @@ where
     end_asked(rt, asked, waiting, answered)
 }
 
-/// The ends of an `ask`, with the socket at the own end. What is missing is reported, and the error
-/// is the status.
-fn open_asked<R>(rt: &R, line: &Ask<'_>) -> Result<(AskEnds, UdpSocket), ExitStatus>
+/// The ends of an `ask`, the key of the two hosts if they have one, and the socket at the own end.
+#[derive(Drop)]
+struct AskOpened {
+    ends: AskEnds,
+    key: Option<Key>,
+    socket: UdpSocket,
+}
+
+/// Opens the own end of an `ask`. What is missing is reported, and the error is the status.
+fn open_asked<R>(rt: &R, line: &Ask<'_>) -> Result<AskOpened, ExitStatus>
 where
     R: AllocGlobal + Env + Eprint + Files<File = File> + Net,
 {
     let ends = match &line.target {
         AskTarget::Name(name) => {
-            let OpenEnds { ends, socket } = open_named(rt, name, line.hosts)?;
-            return Ok((AskEnds::from(ends), socket));
+            let words = CallWords {
+                framing: line.framing,
+                key: line.key,
+                hosts: line.hosts,
+            };
+            let OpenEnds { ends, key, socket } = open_named(rt, name, words)?;
+            let ends = AskEnds::from(ends);
+            return Ok(AskOpened { ends, key, socket });
         }
         AskTarget::Addresses(ends) => ends,
     };
+    let key = key_of_line(rt, line.key)?;
     let opened = match UdpSocket::bind(rt, SocketAddr::V4(ends.socket)) {
         Ok(socket) => ends
             .clone()
-            .map(|ends| (ends, socket))
+            .map(|ends| AskOpened { ends, key, socket })
             .map_err(io::Error::from),
         Err(error) => Err(error),
     };
     opened.map_err(|error| report_unopened(rt, &ends.socket, &error))
+}
+
+/// Puts the script over the socket that was opened, and reports how that ended.
+fn ask_opened<R>(rt: &R, line: &Ask<'_>, opened: AskOpened, terminals: Terminals) -> ExitStatus
+where
+    R: AllocGlobal + Clock + Env + Eprint + Files<File = File> + Input + Net + Print,
+{
+    let AskOpened { ends, key, socket } = opened;
+    let asked = asked_of(rt, line, &ends);
+    let is_reported = terminals.errors && !line.is_quiet;
+    let waiting = Waiting::new(rt, asked.server, is_reported, key.is_some());
+    let heard = heard_alone(asked.server, line.hears_anybody);
+    let socket = WaitingSocket::new(PeerSocket::new(rt, socket, heard), &waiting);
+    let socket = match sealed_to(rt, socket, ends.address, asked.server.address, key) {
+        Ok(socket) => socket,
+        Err(status) => return status,
+    };
+    match line.framing {
+        Framing::Own(_) => {
+            let link = UdpLink::new(socket, ends.peers);
+            ask_by_link(rt, link, &asked, &waiting, terminals)
+        }
+        Framing::Chudp(bridge) => {
+            let hops = hops_of(ends.peers.hosts(), bridge);
+            let link = ChudpLink::new(UdpLink::new(socket, ends.peers), ends.address, hops);
+            ask_by_link(rt, link, &asked, &waiting, terminals)
+        }
+    }
 }
 
 /// Runs `ask` from standard input to standard output.
@@ -248,24 +291,9 @@ where
     if !has_input(rt) {
         return end_script(rt, &Err(RunFault::ReadFault), &Notes::new());
     }
-    let (ends, bound) = match open_asked(rt, &line) {
-        Ok(opened) => opened,
-        Err(status) => return status,
-    };
-    let asked = asked_of(rt, &line, &ends);
-    let waiting = Waiting::new(rt, asked.server, terminals.errors && !line.is_quiet);
-    let heard = heard_alone(asked.server, line.hears_anybody);
-    let socket = WaitingSocket::new(PeerSocket::new(rt, bound, heard), &waiting);
-    match line.framing {
-        Framing::Own(_) => {
-            let link = UdpLink::new(socket, ends.peers);
-            ask_by_link(rt, link, &asked, &waiting, terminals)
-        }
-        Framing::Chudp(bridge) => {
-            let hops = hops_of(ends.peers.hosts(), bridge);
-            let link = ChudpLink::new(UdpLink::new(socket, ends.peers), ends.address, hops);
-            ask_by_link(rt, link, &asked, &waiting, terminals)
-        }
+    match open_asked(rt, &line) {
+        Ok(opened) => ask_opened(rt, &line, opened, terminals),
+        Err(status) => status,
     }
 }
 

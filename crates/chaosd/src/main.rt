@@ -11,6 +11,7 @@ mod descriptors;
 mod looping;
 mod runs;
 mod script_ends;
+mod serve_keys;
 mod served_peers;
 mod serving;
 mod skipped;

@@ -1,5 +1,5 @@
 //! The peers of `serve`: some are followed, and a hosts table may be read again.
-ghost use Rattle.chaosd.specs.ServedPeers.{ServesPeers};
+ghost use Rattle.chaosd.specs.ServedPeers.{ServesPeers, text_taken};
 
 use crate::table_watch::TableWatch;
 use chaos_link::{PeerKeeper, Peers};
@@ -8,8 +8,12 @@ use std::fs::{File, Files};
 use std::net::SocketAddrV4;
 use std::time::Clock;
 
+/// What is logged of a table whose hosts have other keys: the keys are read at the start alone.
+const KEYS_CHANGED: &str = "the keys changed, which needs a restart; the hosts stay";
+
 /// Keeps the peers of a server. A host that is followed is where its last good datagram came from.
-/// Behind an idle turn the hosts table is read again, if there is one and its file changed.
+/// Behind an idle turn the hosts table is read again, if there is one and its file changed. A table
+/// whose hosts have other keys isn't taken in.
 #[derive(Drop)]
 pub(crate) struct ServedPeers<'a, R> {
     pub(crate) followed: FollowedHosts,
@@ -19,7 +23,8 @@ pub(crate) struct ServedPeers<'a, R> {
 
 impl<R: AllocGlobal + Clock + Eprint + Files<File = File>> PeerKeeper for ServedPeers<'_, R> {
     ghost becomes = { λ keeper peers came next_keeper next.
-        ServesPeers keeper.followed peers came next_keeper.followed next };
+        ServesPeers (text_taken keeper.table) keeper.followed peers came
+        (text_taken next_keeper.table) next_keeper.followed next };
 
     fn hear(&mut self, peers: &mut Peers, from: SocketAddrV4, datagram: &[u8]) {
         self.followed.hear(peers, from, datagram);
@@ -34,11 +39,17 @@ impl<R: AllocGlobal + Clock + Eprint + Files<File = File>> PeerKeeper for Served
         };
         match HostsTable::read(text.as_str()) {
             Ok(table) => {
-                watch.log_hosts(table.hosts().len());
-                self.followed.follow(table.followed());
-                *peers = table.into_peers_after(peers);
+                if watch.has_keys_of(&table) {
+                    watch.log_hosts(table.hosts().len());
+                    self.followed.follow(table.followed());
+                    *peers = table.into_peers_after(peers);
+                    watch.keep(text);
+                    return;
+                }
+                watch.log(&KEYS_CHANGED);
             }
             Err(fault) => watch.log(&format_args!("{fault}; the hosts stay")),
         }
+        watch.leave(text);
     }
 }

@@ -1,9 +1,10 @@
 //! The run of `serve`.
-ghost use Rattle.std.specs.Prelude.{◌<◌, ◌≡◌};
+ghost use Rattle.std.specs.Prelude.{◌<◌, ◌≡◌, IfOk};
 ghost use Rattle.chaosd_call.specs.Config.{config_by};
 ghost use Rattle.chaosd_line.specs.Framings.{carriage_of};
 ghost use Rattle.chaosd.specs.ServedPeers.{form_by};
 
+use crate::serve_keys::{is_sealed_line, keys_of_line, keys_of_table};
 use crate::served_peers::ServedPeers;
 use crate::table_watch::TableWatch;
 use arrayvec::ArrayVec;
@@ -11,14 +12,15 @@ use chaos_chudp::ChudpLink;
 use chaos_file::{DirStore, PrintedName, ReadOnly, Store};
 use chaos_link::{Link, MAX_PEERS, Peers, Reports, UdpLink};
 use chaos_node::ClockMoments;
+use chaos_sealed_socket::SealedSocket;
 use chaosd_call::{
-    ExitStatus, TableFile, config_of, hops_of, hosts_in, report_table, report_unopened,
-    table_of_line,
+    ExitStatus, HostKey, TableFile, config_of, hops_of, hosts_in, report_table, report_unopened,
+    seals_of, table_of_line,
 };
 use chaosd_hosts::{DatagramForm, FollowedHosts, Host};
 use chaosd_io::RunFault;
 use chaosd_line::{Framing, LogLevel, Serve, ServeEnds, ServePlace};
-use chaosd_log::{Journal, Level, LogLines, PeerSources, Topic};
+use chaosd_log::{Journal, Level, LogLines, PeerSources, RefusalLog, Topic};
 use file_server::{ServeOptions, run_serve_by};
 use std::fs::{File, Files};
 use std::io;
@@ -117,20 +119,50 @@ fn options_of(line: &Serve<'_>, ends: &ServeEnds) -> ServeOptions
     }
 }
 
+/// A server's socket, which seals over the system's socket what goes to hosts with a key.
+type ServerSocket<'a, R> = SealedSocket<UdpSocket, RefusalLog<'a, R>>;
+
 /// A link over this socket to these peers, which hears these peers alone where that is wanted.
-fn link_over(bound: UdpSocket, peers: Peers, hears_only_peers: bool) -> UdpLink {
+fn link_over<S>(socket: S, peers: Peers, hears_only_peers: bool) -> UdpLink<S> {
     if hears_only_peers {
-        UdpLink::closed(bound, peers)
+        UdpLink::closed(socket, peers)
     } else {
-        UdpLink::new(bound, peers)
+        UdpLink::new(socket, peers)
     }
 }
 
-/// Where a server is and whom it knows, and the file of the hosts table that says so, if one does.
+/// Where a server is and whom it knows, the keys, and the file of the hosts table that says so, if
+/// one does.
 #[derive(Drop)]
 struct Place {
     ends: ServeEnds,
+    keys: Vec<HostKey>,
+    /// Whether each host that is to be heard has a key, so that nobody is heard in clear.
+    is_sealed: bool,
     table: Option<TableFile>,
+}
+
+/// Whether a server logs only mistakes and faults.
+fn is_quiet(line: &Serve<'_>) -> bool {
+    level_of(line.is_quiet, line.log) == Level::Quiet
+}
+
+/// A server's socket over this one, with the keys of its hosts. Where each host that is to be heard
+/// has a key, the socket hears nobody in clear. That the clock can't be read is reported, and the
+/// error is the status.
+fn sealed_over<'a, R: Clock + Eprint>(
+    rt: &'a R,
+    line: &Serve<'_>,
+    place: &Place,
+    bound: UdpSocket,
+) -> Result<ServerSocket<'a, R>, ExitStatus>
+    // A socket of a sealed place hears nobody in clear, and any other hears in clear who has no key.
+    ensures { IfOk result (λ sealed. sealed.sealing.seals.closed ≡ place.now.is_sealed) }
+{
+    let seals = seals_of(rt, place.ends.address, place.keys.as_slice(), place.is_sealed)?;
+    let lines = LogLines::new(rt, line.is_timed);
+    let refusals = RefusalLog::new(rt, lines, is_quiet(line));
+    Ok(SealedSocket::new(bound, seals, refusals))
 }
 
 /// The form of the datagrams of a framing.
@@ -155,9 +187,8 @@ fn keeper_of<'a, R: AllocGlobal + Clock + Eprint + Files<File = File>>(
     ensures { result.followed ≡ record { form = form_by line.now.framing; hosts = followed.items } }
 {
     let lines = LogLines::new(rt, line.is_timed);
-    let is_quiet = level_of(line.is_quiet, line.log) == Level::Quiet;
     let table = match table {
-        Some(file) => Some(TableWatch::new(rt, lines, is_quiet, file)),
+        Some(file) => Some(TableWatch::new(rt, lines, is_quiet(line), file)),
         None => None,
     };
     ServedPeers {
@@ -172,9 +203,9 @@ fn serve_folder<R: AllocGlobal + Clock + Eprint + Files<File = File> + Net>(
     line: &Serve<'_>,
     place: Place,
     folder: DirStore<&R>,
-    bound: UdpSocket,
+    socket: ServerSocket<'_, R>,
 ) -> ExitStatus {
-    let Place { ends, table } = place;
+    let Place { ends, table, .. } = place;
     let options = options_of(line, &ends);
     let peers = match ends.peers.clone() {
         Ok(peers) => peers,
@@ -188,7 +219,7 @@ fn serve_folder<R: AllocGlobal + Clock + Eprint + Files<File = File> + Net>(
         Framing::Chudp(bridge) => Some(hops_of(ends.peers.hosts(), bridge)),
     };
     let keeper = keeper_of(rt, line, ends.followed, table);
-    let mut link = link_over(bound, ends.peers, line.hears_only_peers).kept_by(keeper);
+    let mut link = link_over(socket, ends.peers, line.hears_only_peers).kept_by(keeper);
     match hops {
         None => serve_store(
             rt,
@@ -235,6 +266,8 @@ where
     if line.hears_only_peers && !followed.is_empty() {
         return Err(report_table(rt, name, &"a host with * can't be heard with --only-peers"));
     }
+    let keys = keys_of_table(rt, &file, &table, line.framing)?;
+    let is_sealed = table.is_sealed();
     let ends = ServeEnds {
         address,
         socket,
@@ -243,6 +276,8 @@ where
     };
     Ok(Place {
         ends,
+        keys,
+        is_sealed,
         table: Some(file),
     })
 }
@@ -255,7 +290,12 @@ where
     match &line.place {
         ServePlace::Table => place_in_table(rt, line),
         ServePlace::Addresses(ends) => match ends.clone() {
-            Ok(ends) => Ok(Place { ends, table: None }),
+            Ok(ends) => Ok(Place {
+                keys: keys_of_line(rt, line.key, &ends)?,
+                is_sealed: is_sealed_line(line.key, &ends),
+                ends,
+                table: None,
+            }),
             Err(error) => Err(report_unopened(rt, &ends.socket, &io::Error::from(error))),
         },
     }
@@ -276,8 +316,12 @@ where
         Err(error) => return report_unopened(rt, &PrintedName(line.folder), &error),
     };
     let socket = place.ends.socket;
-    match UdpSocket::bind(rt, SocketAddr::V4(socket)) {
-        Ok(bound) => serve_folder(rt, &line, place, folder, bound),
-        Err(error) => report_unopened(rt, &socket, &error),
+    let bound = match UdpSocket::bind(rt, SocketAddr::V4(socket)) {
+        Ok(bound) => bound,
+        Err(error) => return report_unopened(rt, &socket, &error),
+    };
+    match sealed_over(rt, &line, &place, bound) {
+        Ok(sealed) => serve_folder(rt, &line, place, folder, sealed),
+        Err(status) => status,
     }
 }

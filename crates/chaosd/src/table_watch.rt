@@ -1,6 +1,10 @@
 //! A hosts table that is read again when its file changed.
+ghost use Rattle.std.specs.Prelude.{◌≡◌, string_bytes, true};
+ghost use Rattle.chaosd.specs.ServedPeers.{HasKeysOf};
+
 use chaos_file::PrintedName;
 use chaosd_call::{TableFile, read_table};
+use chaosd_hosts::HostsTable;
 use chaosd_log::LogLines;
 use std::fmt::Display;
 use std::fs::{File, Files, Metadata};
@@ -35,8 +39,10 @@ pub(crate) struct TableWatch<'a, R> {
     lines: LogLines<'a, R>,
     /// Whether only faults are logged.
     is_quiet: bool,
-    /// The table as it was read last.
-    file: TableFile,
+    /// The table that was taken in last.
+    pub(crate) file: TableFile,
+    /// What the file had when it was read last, where that was not taken in.
+    left: Option<String>,
     /// What was seen of the file when it was looked at last, if it was there.
     seen: Option<Seen>,
     /// Whether it was logged that the file can't be read.
@@ -53,6 +59,7 @@ impl<'a, R: AllocGlobal + Clock + Eprint + Files<File = File>> TableWatch<'a, R>
             lines,
             is_quiet,
             file,
+            left: None,
             seen: None,
             is_missed: false,
             next: 0,
@@ -84,7 +91,9 @@ impl<'a, R: AllocGlobal + Clock + Eprint + Files<File = File>> TableWatch<'a, R>
     }
 
     /// Whether it is time to look at the file again.
-    fn is_due(&mut self) -> bool {
+    fn is_due(&mut self) -> bool
+        ensures { self.new.file ≡ self.old.file }
+    {
         let Ok(now) = self.rt.monotonic() else {
             return false;
         };
@@ -97,7 +106,9 @@ impl<'a, R: AllocGlobal + Clock + Eprint + Files<File = File>> TableWatch<'a, R>
     }
 
     /// Reads the file if it isn't what was seen last.
-    fn read(&mut self) -> io::Result<Option<String>> {
+    fn read(&mut self) -> io::Result<Option<String>>
+        ensures { self.new.file ≡ self.old.file }
+    {
         let seen = self.see()?;
         if self.seen == Some(seen) {
             return Ok(None);
@@ -107,21 +118,58 @@ impl<'a, R: AllocGlobal + Clock + Eprint + Files<File = File>> TableWatch<'a, R>
         Ok(Some(text))
     }
 
-    /// The text of the file, where it is another than was read last, which is then kept.
-    fn take(&mut self) -> io::Result<Option<String>> {
-        let Some(text) = self.read()? else {
-            return Ok(None);
-        };
-        if text == self.file.text {
-            return Ok(None);
+    /// Whether the file had this text when it was read last.
+    fn is_known(&self, text: &str) -> bool {
+        match &self.left {
+            Some(left) => left.as_str() == text,
+            None => self.file.text.as_str() == text,
         }
-        self.file.text = text.clone()?;
-        Ok(Some(text))
+    }
+
+    /// The text of the file, where it is another than was read last.
+    fn take(&mut self) -> io::Result<Option<String>>
+        ensures { self.new.file ≡ self.old.file }
+    {
+        match self.read()? {
+            Some(text) if !self.is_known(text.as_str()) => Ok(Some(text)),
+            _ => Ok(None),
+        }
+    }
+
+    /// Whether the hosts of a table have the same keys as those of the table that was taken in
+    /// last.
+    pub(crate) fn has_keys_of(&self, table: &HostsTable<'_>) -> bool
+        // The result is true only where the text that was taken in last writes a table, and each
+        // host has the same key file in both tables, or no key in both.
+        ensures { result ≡ true → HasKeysOf (string_bytes self.now.file.text) table.now }
+    {
+        match HostsTable::read(self.file.text.as_str()) {
+            Ok(taken) => taken.has_keys_of(table),
+            Err(_) => false,
+        }
+    }
+
+    /// This text, which is that of the file now, was taken in.
+    pub(crate) fn keep(&mut self, text: String)
+        ensures { string_bytes self.new.file.text ≡ string_bytes text }
+    {
+        self.file.text = text;
+        self.left = None;
+    }
+
+    /// This text, which is that of the file now, was not taken in.
+    pub(crate) fn leave(&mut self, text: String)
+        ensures { self.new.file ≡ self.old.file }
+    {
+        self.left = Some(text);
     }
 
     /// Looks at the file now and then. Gives its text where it is another than was read last. That
     /// the file can't be read is logged once.
-    pub(crate) fn news(&mut self) -> Option<String> {
+    pub(crate) fn news(&mut self) -> Option<String>
+        // The table that was taken in stays.
+        ensures { self.new.file ≡ self.old.file }
+    {
         if !self.is_due() {
             return None;
         }
@@ -138,7 +186,9 @@ impl<'a, R: AllocGlobal + Clock + Eprint + Files<File = File>> TableWatch<'a, R>
     }
 
     /// Logs once that the file can't be read.
-    fn miss(&mut self, error: &io::Error) {
+    fn miss(&mut self, error: &io::Error)
+        ensures { self.new.file ≡ self.old.file }
+    {
         if !self.is_missed {
             self.is_missed = true;
             self.log(&format_args!("can't be read, so the hosts stay: {error}"));

@@ -1,5 +1,5 @@
 -- Keys, and the files that have them.
-use Rattle.std.specs.Prelude.{◌≡◌, ◌≢◌, ◌-◌, ◌∷◌, [], ℕ, Bool, List, length, map, drop, take, bit_and, Option, Some, None, unwrap_or, Result, Ok}
+use Rattle.std.specs.Prelude.{◌≡◌, ◌≢◌, ◌-◌, ◌∷◌, [], ℕ, Bool, true, false, List, length, map, drop, take, bit_and, Option, Some, None, unwrap_or, Result, Ok}
 use Rattle.std.specs.Char.{is_ascii_whitespace}
 use Rattle.std.specs.Fs.{IsFile, file_type, metadata_mode}
 use Rattle.std.specs.List.{prefix_len, suffix_len}
@@ -8,6 +8,8 @@ use Rattle.std.specs.declared.fs.attrs.Metadata.{Metadata}
 use Rattle.hex.specs.Hex.{decode_sized}
 use Rattle.hex.specs.declared.error.FromHexError.{FromHexError}
 use Rattle.chaos_seal.specs.Peers.{SealsView, new_peer}
+use Rattle.chaos_seal.specs.declared.fault.SealFault.{SealFault}
+use Rattle.chaos_seal.specs.declared.fault.SealFault.TheVariants as faults
 use Rattle.chaos_seal.specs.declared.limits.TheConstants.{KEY_BYTES}
 use Rattle.chaosd_call.specs.declared.key_file.KeyFileFault.{KeyFileFault}
 use Rattle.chaosd_call.specs.declared.keys.HostKey.{HostKey}
@@ -62,3 +64,12 @@ SealsWith dates me keys closed seals = (seals.me ≡ me) × IsSession dates keys
 abbrev pub keys_with : ℕ → Option (List ℕ) → List HostKey
 keys_with server None = []
 keys_with server (Some key) = record { address = server; key = key } ∷ []
+
+-- ---- what is reported of sealed datagrams
+
+-- a network that repeats and delays brings such datagrams
+abbrev pub is_usual : SealFault → Bool
+is_usual faults.Stale = true
+is_usual faults.OldSession = true
+is_usual faults.OldCounter = true
+is_usual other = false

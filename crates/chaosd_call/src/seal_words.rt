@@ -1,4 +1,7 @@
 //! What a client's user reads of sealed datagrams that get no answer, and of refused ones.
+ghost use Rattle.std.specs.Prelude.{◌≡◌};
+ghost use Rattle.chaosd_call.specs.Key.{is_usual};
+
 use chaos_node::ReadableClock;
 use chaos_seal::SealFault;
 use chaos_sealed_socket::SealObserver;
@@ -12,7 +15,8 @@ const PATIENT_FOR: u64 = 5;
 const PATIENT_SECONDS: u64 = 2;
 
 /// Reports, once each, that nothing sealed came from the server, and the first datagram that was
-/// refused.
+/// refused. A datagram that was heard already, or that is of another run, isn't reported: a
+/// network may repeat or delay any.
 #[derive(Drop)]
 pub struct SealWords<'a, R> {
     rt: &'a R,
@@ -47,9 +51,21 @@ impl<'a, R: ReadableClock> SealWords<'a, R> {
     }
 }
 
+/// Whether a network that repeats and delays brings such datagrams.
+fn is_usual(fault: SealFault) -> bool
+    // An old counter, an old session, and an empty datagram for another run are usual, and nothing
+    // else.
+    ensures { result ≡ is_usual fault }
+{
+    match fault {
+        SealFault::Stale | SealFault::OldSession | SealFault::OldCounter => true,
+        _ => false,
+    }
+}
+
 impl<R: ReadableClock + Eprint> SealObserver for SealWords<'_, R> {
     fn refused(&mut self, from: SocketAddr, fault: SealFault) {
-        if !self.was_refused {
+        if !self.was_refused && !is_usual(fault) {
             self.was_refused = true;
             let _ = eprintln!(self.rt; "chaosd: refused a datagram of {from}: {fault}");
         }
