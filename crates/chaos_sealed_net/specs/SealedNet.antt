@@ -1,12 +1,12 @@
 -- Two hosts on one network whose datagrams are sealed.
 --
--- A host seals the packets that it has sent, some of them in each datagram, and each datagram has a greater counter than
--- those before. The other host hears a packet only in a datagram whose counter is fewer than 256 below the greatest that
--- it has heard. Nothing else is asked of the seal: a datagram may be heard twice, and may carry any number of packets.
+-- Each datagram carries some of the packets that a host has sent, and has a greater counter than all datagrams before. The
+-- other host hears a packet only in a datagram whose counter is fewer than 256 below the greatest that it has heard.
+-- Nothing else is asked of the seal: a datagram may be heard twice, and may carry any number of packets.
 --
---       A sent packets       0   1   2   3   4   5
---       and sealed          [ 1 ]   [   2   ]  [ 4 ]     datagrams with counters 1, 2 and 4; packet 1 in none
---       B heard counters     2, 1, 2                    the greatest is 2
+--       A sent packets      0    1    2    3    4    5
+--       A sealed           [1]       [   2   ]      [4]      counters 1, 2 and 4; packets 1 and 4 are in no datagram
+--       B heard            2, 1, 2                           the greatest counter that B heard is 2
 use Rattle.std.specs.Prelude.{◌≡◌, ℕ, ◌+◌, ◌<◌, ◌≤◌, max, true, List, [], ◌∷◌, ◌++◌, length, Option, Some, None, slice_get, ◌⊎◌}
 use Rattle.std.specs.List.{AllByRecursion}
 use Rattle.chaos_packet.specs.Opcode.{kind_of}
@@ -56,7 +56,7 @@ hears newest A (Some d) B = newest B
 hears newest B (Some d) A = newest A
 hears newest B (Some d) B = max (newest B) d.counter
 
--- what an event makes of the machine
+-- What an event makes of the machine. A side that hears a packet hears the counter of the datagram.
 abbrev pub sealed_after : SealedNet → SealedEvent → SealedNet
 sealed_after s (Does x event) = record s { net = happens s.net (At x event) }
 sealed_after s (Seals x d) = record s { datagrams = with_datagram s.datagrams x d }
@@ -67,14 +67,14 @@ sealed_after s (Hears x place number now) = record s {
 
 -- ---- what may happen
 
--- d comes after e: its counter is greater, and all its packets are later than those of e. Or it is e again under a
+-- d comes after e: the counter is greater, and all packets of d are later than those of e. Or d is e again, under a
 -- greater counter.
 pub record ComesAfter (e d : Datagram) : Type 0 where
   pub counter : e.counter < d.counter
   pub packets : (e.last < d.first) ⊎ ((d.first ≡ e.first) × (d.last ≡ e.last))
 
--- A side may seal packets that it has sent, after all datagrams that it sealed. So the last one may be sealed again, and
--- no other. No counter is 0.
+-- A side may seal packets that it has sent, after all datagrams that it sealed. So the last datagram may be sealed again,
+-- and no other. No counter is 0.
 pub record MaySeal (s : SealedNet) (x : Side) (d : Datagram) : Type 0 where
   pub some : 1 ≤ d.counter
   pub order : d.first ≤ d.last
