@@ -1,5 +1,5 @@
 -- What becomes of a datagram.
-use Rattle.std.proofs.Common.{◌≡◌, ◌≢◌, ◌↔◌, ℕ, ◌<◌, ◌≤◌, Bool, true, false, List, [], ◌∷◌, length, get_or, cond, take, drop, refl, arith, ap, ◌∙◌, sym, nat_lt, inl, inr, Some, None, slice_get, slice_set}
+use Rattle.std.proofs.Common.{◌≡◌, ◌+◌, ◌≢◌, ◌↔◌, ℕ, ◌<◌, ◌≤◌, Bool, true, false, List, [], ◌∷◌, length, get_or, cond, take, drop, refl, arith, ap, ◌∙◌, sym, nat_lt, inl, inr, Some, None, slice_get, slice_set}
 use Rattle.std.proofs.lemmas.Bool.Decides.{nat_tests}
 use Rattle.chaos_seal.specs.Law.{IsOpened}
 use Rattle.chaos_seal.specs.Opening.{Answers, Comes, IsForMe, IsTimely, Opens, Refuses, after, from_in, heard, in_session}
@@ -154,10 +154,10 @@ comes_up v w d count (inr (inl (is, fault, refuses, same, e))) = absurd (no_payl
 comes_up v w d count (inr (inr sealed)) = sealed
 
 pub payload_long : (v w : SealsView) (d : List ℕ) (count : ℕ) → Opens v d (opened.Payload count) w
-    → (48 ≤ length d) × (count ≡ length (payload_of d))
+    → (length d ≡ 48 + count) × (count ≡ length (payload_of d))
 payload_long v w d count opens =
     let (p, h, payload, c, a) = comes_up v w d count opens in
-    (omega (arith, long c.sealed), a.3 ∙ ap length (sym (payload_is c.sealed)))
+    (omega (arith, long c.sealed, a.3), a.3 ∙ ap length (sym (payload_is c.sealed)))
 
 no_hello_plain : (to session : ℕ) → opened.Hello to session ≡ opened.Plain → ⊥
 no_hello_plain to session e = cc

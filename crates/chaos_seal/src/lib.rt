@@ -28,8 +28,8 @@
 //! stop datagrams on the way can stop these too. A host whose clock went back between two runs is
 //! not heard until the other host starts again, since its session has to grow from run to run.
 //!
-//! Bytes alone: no socket and no clock, and nothing is allocated. A tag costs as many blocks of
-//! SHA-256 as the text has, and two more: no tag hashes the key anew.
+//! Bytes alone: no socket and no clock, and nothing is allocated. A tag hashes the text and one
+//! block more: no tag hashes the key anew.
 #![tactic(auto)]
 
 mod fault;

@@ -232,7 +232,8 @@ impl Seals {
         ensures others { (address : ℕ) → address ≢ from_in (take count buffer.old) →
             peer_of address self.new.peers ≡ peer_of address self.old.peers }
         ensures keeps { KeepsSealing self.old self.new }
-        // The payload stands in the front of the buffer.
+        // The payload is 48 bytes shorter than the datagram, and stands in the front of the buffer.
+        ensures shorter { (n : ℕ) → result ≡ Opened.Payload n → n + SEAL_BYTES ≡ count }
         ensures payload { (n : ℕ) → result ≡ Opened.Payload n →
             take n buffer.new ≡ payload_of (take count buffer.old) }
         // Otherwise the buffer stays.

@@ -1,4 +1,4 @@
-use Rattle.std.proofs.Common.{◌∙◌, ap, arith, length-take, take}
+use Rattle.std.proofs.Common.{◌∙◌, ap, arith, length-take, length-take-le, take}
 use Rattle.chaos_seal.proofs.Answered.{hello_long, opened_so, payload_long}
 use Rattle.chaos_seal.proofs.Changed.{keeps_sealing, others_same, refused_same}
 use Rattle.chaos_seal.proofs.seals.Seals.open.Goals as goal
@@ -63,3 +63,10 @@ pub returns-in_default-clause-keeps : goal.returns-in_default-clause-keeps
 returns-in_default-clause-keeps c =
     keeps_sealing c.args.self.now c.take-opened.new.self (take c.args.count c.args.buffer.now) c.take-opened.result
     c.take-opened.ensures
+
+pub returns-in-Payload-clause-shorter : goal.returns-in-Payload-clause-shorter
+returns-in-Payload-clause-shorter c n payload =
+    let (long, is) =
+    payload_long c.args.self.now c.take-opened.new.self (take c.args.count c.args.buffer.now) n
+    (rw payload at c.take-opened.ensures) in
+    omega (arith, long, length-take-le c.args.count c.args.buffer.now (omega (arith, c.requires, c.told-buffer)))
