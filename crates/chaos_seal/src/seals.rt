@@ -284,9 +284,7 @@ impl Seals {
         ensures { IsTrue result
             ↔ All (λ source. is_heard_in_clear source self.now ≡ true) sources.now }
     {
-        sources
-            .iter()
-            .all(|source| self.is_heard_in_clear(*source))
+        sources.iter().all(|source| self.is_heard_in_clear(*source))
     }
 
     /// Whether a host is heard in clear.

@@ -4,8 +4,8 @@ ghost use Rattle.std.specs.List.{filter_map};
 ghost use Rattle.chaosd_hosts.specs.Table.{host_view};
 ghost use Rattle.chaosd.specs.ServeKeys.{hosts_of, is_sealed_by, keyed_address, keyed_hosts, sealed_peers};
 
-use chaosd_call::{ExitStatus, HostKey, Key, TableFile, key_of_host, key_of_line, report_unopened};
 use chaos_link::Peer;
+use chaosd_call::{ExitStatus, HostKey, Key, TableFile, key_of_host, key_of_line, report_unopened};
 use chaosd_hosts::{Host, HostsTable};
 use chaosd_line::{Framing, ServeEnds};
 use std::alloc::AllocError;

@@ -159,7 +159,12 @@ fn sealed_over<'a, R: Clock + Eprint>(
     // A socket of a sealed place hears nobody in clear, and any other hears in clear who has no key.
     ensures { IfOk result (λ sealed. sealed.sealing.seals.closed ≡ place.now.is_sealed) }
 {
-    let seals = seals_of(rt, place.ends.address, place.keys.as_slice(), place.is_sealed)?;
+    let seals = seals_of(
+        rt,
+        place.ends.address,
+        place.keys.as_slice(),
+        place.is_sealed,
+    )?;
     let lines = LogLines::new(rt, line.is_timed);
     let refusals = RefusalLog::new(rt, lines, is_quiet(line));
     Ok(SealedSocket::new(bound, seals, refusals))
