@@ -169,14 +169,16 @@ class Tables(Case):
                     ("another file", good.replace("own.key", "other.key")),
                     ("no key", good.replace(f"key={here.top}/own.key ", "")),
                     ("one key more", good + f"405 {at(here.port)} more key=more.key\n"),
+                    ("a host in clear", good + f"405 {at(here.port)} more\n"),
                 ]:
                     written(here.served, *text.splitlines())
                     line = here.server.line_with(b"hosts table")
                     self.check(f"{name} is logged", [] if wanted in line else [repr(line)])
                     self.check(f"put beside {name}", calm(here.call("put", "A", "lispm:")).problems(DONE, b"", b""))
-                written(here.served, *good.splitlines(), f"405 {at(here.port)} more")
+                own = f"key={here.top}/own.key "
+                written(here.served, *good.replace(own, f"{own}more ").splitlines())
                 line = here.server.line_with(b"hosts table")
-                self.check("a host without a key is taken in", [] if b"read again, 2 other hosts" in line else [repr(line)])
+                self.check("a name is taken in", [] if b"read again, 1 other hosts" in line else [repr(line)])
             finally:
                 here.server.end()
 
@@ -292,7 +294,7 @@ class Differences(Case):
             hint = b" as a PEER? A server that has a key for this host answers under seal alone\n"
             self.check("client", ended.problems(ended.status, b"", [b"no connection opened in ", hint]))
             line = server.line_with(b"refused")
-            wanted = b"a packet without a seal, of a host that has a key\n"
+            wanted = b"a packet without a seal\n"
             self.check("server", [] if line.endswith(wanted) else [repr(line)])
 
     def test_an_answer_without_a_seal_is_reported(self):
@@ -305,5 +307,5 @@ class Differences(Case):
             sealed, source = server.recvfrom(4_096)
             self.check("what came is sealed", [] if sealed.startswith(SEALED) else [sealed.hex()])
             server.sendto(STATUS, source)
-            wanted = b"chaosd: refused a datagram of %s: a packet without a seal, of a host that has a key\n" % at(port).encode()
+            wanted = b"chaosd: refused a datagram of %s: a packet without a seal\n" % at(port).encode()
             self.check("client", told(client, [wanted]))
