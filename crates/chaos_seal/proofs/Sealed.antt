@@ -87,14 +87,14 @@ no_some (Some n) e is = cc
 
 -- ---- one host of the table changed in place
 
-module _ (v : SealsView) (me session : ℕ) (closed : Bool) (items now : List SealPeer) (place : ℕ) (r q : SealPeer)
+module _ (v : SealsView) (me session : ℕ) (closed : Bool) (items now : List SealPeer) (n : ℕ) (counted : n ≡ length items) (place : ℕ) (r q : SealPeer)
     (view : ◌≡◌ {A = SealsView} (record { me = me; session = session; closed = closed; peers = items }) v) (is : now ≡ items)
     (inside : place < length v.peers) (read : r ≡ get_or now place r) where
   abbrev p : SealPeer
   p = get_or now place r
 
   abbrev changed : SealsView
-  changed = record { me = me; session = session; closed = closed; peers = refill (length items) items (slice_set now place q) }
+  changed = record { me = me; session = session; closed = closed; peers = refill n items (slice_set now place q) }
 
   pub there_now : slice_get v.peers place ≡ Some p
   there_now =
@@ -113,7 +113,7 @@ module _ (v : SealsView) (me session : ℕ) (closed : Bool) (items now : List Se
         peer = p;
         there = there_now;
         sealed = rw head at sealed;
-        next = changed_view v me session closed items now place q (sent_once p) view is next;
+        next = changed_view v me session closed items now n counted place q (sent_once p) view is next;
       }
 
   pub heard_at : (s c : ℕ) → (p.session ≤ s) × IsFresh (in_session p s).window c → q ≡ heard p s c → HearsAt v place s c changed
@@ -122,5 +122,5 @@ module _ (v : SealsView) (me session : ℕ) (closed : Bool) (items now : List Se
     there = there_now;
     newest = timely.0;
     fresh = timely.1;
-    next = changed_view v me session closed items now place q (heard p s c) view is next;
+    next = changed_view v me session closed items now n counted place q (heard p s c) view is next;
   }

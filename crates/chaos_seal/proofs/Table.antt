@@ -62,15 +62,15 @@ seen address ps xs i p is same read =
     (at, at_place address ps i is ∙ at)
 
 -- the view once one host was changed in place
-pub changed_view : (v : SealsView) (me session : ℕ) (closed : Bool) (items now : List SealPeer) (i : ℕ) (q r : SealPeer)
+pub changed_view : (v : SealsView) (me session : ℕ) (closed : Bool) (items now : List SealPeer) (n : ℕ) (counted : n ≡ length items) (i : ℕ) (q r : SealPeer)
     → ◌≡◌ {A = SealsView} (record { me = me; session = session; closed = closed; peers = items }) v → now ≡ items → q ≡ r
     → ◌≡◌ {A = SealsView}
-    (record { me = me; session = session; closed = closed; peers = refill (length items) items (slice_set now i q) })
+    (record { me = me; session = session; closed = closed; peers = refill n items (slice_set now i q) })
     (record v { peers = slice_set v.peers i r })
-changed_view v me session closed items now i q r view is same =
+changed_view v me session closed items now n counted i q r view is same =
     let s = slice_set now i q in
-    let whole : refill (length items) items s ≡ s =
-    take_at s (drop (length s) items) (length items) (length-set now i q ∙ ap length is) in
+    let whole : refill n items s ≡ s =
+    take_at s (drop (length s) items) n (length-set now i q ∙ ap length is ∙ sym counted) in
     let there : s ≡ slice_set items i r = ap₂ (λ l x. slice_set l i x) is same in
     ap (λ l. record { me = me; session = session; closed = closed; peers = l }) (whole ∙ there)
     ∙ ap (λ (u : SealsView). record u { peers = slice_set u.peers i r }) view

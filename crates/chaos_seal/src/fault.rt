@@ -46,4 +46,7 @@ pub enum KeyFault {
     /// The host has a key.
     #[error("a host with this address has a key already")]
     Already,
+    /// There is no memory for the key.
+    #[error("no memory for a key")]
+    NoMemory,
 }

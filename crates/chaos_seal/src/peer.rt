@@ -27,15 +27,6 @@ pub struct SealPeer {
     pub window: ReplayWindow,
 }
 
-/// Stands in the places of a table that hold no host yet: address 0, which no host has.
-impl Default for SealPeer {
-    ghost is_default = { λ peer. peer.address ≡ 0 };
-
-    fn default() -> Self {
-        SealPeer::new(0, &[0; KEY_BYTES])
-    }
-}
-
 impl SealPeer {
     /// A host of which nothing was heard.
     pub fn new(address: u16, key: &[u8; KEY_BYTES]) -> Self

@@ -18,8 +18,8 @@ use crate::limits::{KEY_BYTES, SEAL_BYTES};
 use crate::opened::Opened;
 use crate::peer::SealPeer;
 use crate::sources::{is_all_from, sources};
-use arrayvec::ArrayVec;
 use chaos_link::{LINK_ROOM, MAX_PEERS};
+use std::alloc::Global;
 use std::marker::Model;
 
 /// What a host seals and opens with: its address, its session, and the hosts that have a key. There
@@ -30,7 +30,7 @@ pub struct Seals {
     session: u64,
     /// Whether nobody is heard in clear.
     is_closed: bool,
-    peers: ArrayVec<SealPeer, MAX_PEERS>,
+    peers: Vec<SealPeer>,
 }
 
 impl Model for Seals {
@@ -49,7 +49,7 @@ impl Model for Seals {
 impl Seals {
     /// A host with this address, in this session, and no keys. A later run of the host needs a
     /// greater session.
-    pub fn new(me: u16, session: u64) -> Self
+    pub fn new(alloc: Global, me: u16, session: u64) -> Self
         // No host has a key yet, and all are heard in clear.
         ensures { result ≡ record { me = me; session = session; closed = false; peers = [] } }
     {
@@ -57,7 +57,7 @@ impl Seals {
             me,
             session,
             is_closed: false,
-            peers: ArrayVec::new(),
+            peers: Vec::new(alloc),
         }
     }
 
@@ -72,28 +72,31 @@ impl Seals {
     /// Adds the key that this host and another one have.
     ///
     /// # Errors
-    /// There are 32 keys already, or the host has one. The first of these that holds is given.
+    /// There are 32 keys already, the host has one, or there is no memory. The first of these that
+    /// holds is given.
     pub fn add(&mut self, address: u16, key: &[u8; KEY_BYTES]) -> Result<(), KeyFault>
         // The host is added behind the others, with nothing heard of it. Nothing else changes.
         ensures ok { OnOk result (self.new
             ≡ record self.old { peers = self.old.peers ++ new_peer address key.now ∷ [] }) }
         // A refusal changes nothing.
         ensures err { OnErr result (self.new ≡ self.old) }
-        // A key is refused exactly where there are 32 already, or the host has one; the first of
-        // these that holds is given.
+        // A key is refused where there are 32 already, and otherwise where the host has one. Any
+        // other refusal is that there is no memory.
         ensures too_many { IsErrOf result KeyFault.TooMany
-            ↔ (length self.old.peers ≡ MAX_PEERS) }
+            ↔ (MAX_PEERS ≤ length self.old.peers) }
         ensures already { IsErrOf result KeyFault.Already
             ↔ ((length self.old.peers < MAX_PEERS) × IsTrue (has_key address self.old)) }
     {
-        if self.peers.is_full() {
+        if self.peers.len() >= MAX_PEERS {
             return Err(KeyFault::TooMany);
         }
         if self.has_key(address) {
             return Err(KeyFault::Already);
         }
-        self.peers.push(SealPeer::new(address, key));
-        Ok(())
+        match self.peers.push(SealPeer::new(address, key)) {
+            Ok(()) => Ok(()),
+            Err(_) => Err(KeyFault::NoMemory),
+        }
     }
 
     /// Whether a host has a key.

@@ -150,7 +150,7 @@ fn is_quiet(line: &Serve<'_>) -> bool {
 /// A server's socket over this one, with the keys of its hosts. Where each host that is to be heard
 /// has a key, the socket hears nobody in clear. That the clock can't be read is reported, and the
 /// error is the status.
-fn sealed_over<'a, R: Clock + Eprint>(
+fn sealed_over<'a, R: AllocGlobal + Clock + Eprint>(
     rt: &'a R,
     line: &Serve<'_>,
     place: &Place,

@@ -19,7 +19,7 @@ pub type ClientSocket<'a, R, S> = SealedSocket<S, SealWords<'a, R>>;
 
 /// A link over the socket of a call, to its server. That the clock can't be read is reported, and
 /// the error is the status.
-pub fn link_to_server<R: ReadableClock + Eprint>(
+pub fn link_to_server<R: AllocGlobal + ReadableClock + Eprint>(
     rt: &R,
     opened: OpenEnds,
     hears_anybody: bool,
@@ -33,7 +33,7 @@ pub fn link_to_server<R: ReadableClock + Eprint>(
 
 /// A client's socket that seals, over this socket, what goes to its server, if the two have a key.
 /// That the clock can't be read is reported, and the error is the status.
-pub fn sealed_to<R: ReadableClock + Eprint, S: Drop>(
+pub fn sealed_to<R: AllocGlobal + ReadableClock + Eprint, S: Drop>(
     rt: &R,
     socket: S,
     me: u16,

@@ -7,6 +7,7 @@ use crate::keys::HostKey;
 use chaos_node::ReadableClock;
 use chaos_seal::Seals;
 use chaosd_io::RunFault;
+use std::alloc::Global;
 
 /// The session of a run that begins now: the nanoseconds since 1970, so that a later run has a
 /// greater one.
@@ -35,10 +36,10 @@ fn session_of<R: ReadableClock + Eprint>(rt: &R, keys: &[HostKey]) -> Result<u64
 }
 
 /// What the host with this address seals with in this session, where no host has a key yet.
-fn no_seals(me: u16, session: u64, is_closed: bool) -> Seals
+fn no_seals(alloc: Global, me: u16, session: u64, is_closed: bool) -> Seals
     ensures { result ≡ record { me = me; session = session; closed = is_closed; peers = [] } }
 {
-    let mut seals = Seals::new(me, session);
+    let mut seals = Seals::new(alloc, me, session);
     if is_closed {
         seals.close();
     }
@@ -47,7 +48,7 @@ fn no_seals(me: u16, session: u64, is_closed: bool) -> Seals
 
 /// What the host with this address seals with, in a run that begins now, where it has these keys
 /// and hears others in clear unless it is closed. That the clock can't be read is reported, and the error is the status.
-pub fn seals_of<R: ReadableClock + Eprint>(
+pub fn seals_of<R: AllocGlobal + ReadableClock + Eprint>(
     rt: &R,
     me: u16,
     keys: &[HostKey],
@@ -58,7 +59,7 @@ pub fn seals_of<R: ReadableClock + Eprint>(
     // closed host hears nobody in clear.
     ensures { IfOk result (SealsWith (R.dates rt.now) me keys.now is_closed) }
 {
-    let mut seals = no_seals(me, session_of(rt, keys)?, is_closed);
+    let mut seals = no_seals(rt.alloc(), me, session_of(rt, keys)?, is_closed);
     for key in keys {
         if let Err(fault) = seals.add(key.address, &key.key) {
             let _ = eprintln!(rt; "chaosd: host {:o}: {fault}", key.address);
