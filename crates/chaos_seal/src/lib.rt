@@ -28,8 +28,8 @@
 //! stop datagrams on the way can stop these too. A host whose clock went back between two runs is
 //! not heard until the other host starts again, since its session has to grow from run to run.
 //!
-//! Bytes alone: no socket and no clock, and nothing is allocated. A tag hashes the text and one
-//! block more: no tag hashes the key anew.
+//! Bytes alone: no socket and no clock. Memory is taken where a key is added, and nowhere else. A
+//! tag hashes the text and one block more: no tag hashes the key anew.
 #![tactic(auto)]
 
 mod fault;

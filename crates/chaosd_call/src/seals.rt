@@ -5,7 +5,7 @@ ghost use Rattle.chaosd_call.specs.Key.{IsSession, SealsWith};
 use crate::exit_status::ExitStatus;
 use crate::keys::HostKey;
 use chaos_node::ReadableClock;
-use chaos_seal::Seals;
+use chaos_seal::{KeyFault, Seals};
 use chaosd_io::RunFault;
 use std::alloc::Global;
 
@@ -46,8 +46,17 @@ fn no_seals(alloc: Global, me: u16, session: u64, is_closed: bool) -> Seals
     seals
 }
 
+/// The exit status of a run that can't have a key.
+fn status_of(fault: KeyFault) -> ExitStatus {
+    match fault {
+        KeyFault::NoMemory => ExitStatus::NoMemory,
+        KeyFault::TooMany | KeyFault::Already => ExitStatus::BadLine,
+    }
+}
+
 /// What the host with this address seals with, in a run that begins now, where it has these keys
-/// and hears others in clear unless it is closed. That the clock can't be read is reported, and the error is the status.
+/// and hears others in clear unless it is closed. That the clock can't be read, or that there is no
+/// memory, is reported, and the error is the status.
 pub fn seals_of<R: AllocGlobal + ReadableClock + Eprint>(
     rt: &R,
     me: u16,
@@ -63,7 +72,7 @@ pub fn seals_of<R: AllocGlobal + ReadableClock + Eprint>(
     for key in keys {
         if let Err(fault) = seals.add(key.address, &key.key) {
             let _ = eprintln!(rt; "chaosd: host {:o}: {fault}", key.address);
-            return Err(ExitStatus::BadLine);
+            return Err(status_of(fault));
         }
     }
     Ok(seals)
