@@ -230,7 +230,7 @@ pub(crate) const RENAME_USAGE: &str = "\
 chaosd rename [OPTIONS] HOST:OLD NEW
        chaosd rename [OPTIONS] ADDRESS UDP SERVER OLD NEW";
 
-/// The rule that tells the two forms of a line apart, and the words of the long form that all
+/// The rule by which the two forms of a line differ, and the words of the long form that all
 /// commands have which use the network.
 macro_rules! words {
     ($short:literal, $long:literal) => {
