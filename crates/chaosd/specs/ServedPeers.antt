@@ -21,7 +21,8 @@ form_by (framing.Chudp bridge) = form.Chudp
 abbrev pub text_taken : {R : Type 0} → Option (TableWatch R) → Option (List ℕ)
 text_taken watch = option_map (λ w. string_bytes w.file.text) watch
 
--- A text writes a table, and each host has the same key file there and in this table, or no key in both.
+-- A text writes a table. Each host has the same key file there and in this table, or no key in both, and both tables are sealed or
+-- neither is.
 abbrev pub HasKeysOf : List ℕ → TableView → Type 0
 HasKeysOf text table = (taken : TableView) × (table_of text ≡ Ok taken) × (has_keys_of taken table ≡ true)
 

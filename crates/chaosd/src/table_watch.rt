@@ -137,10 +137,11 @@ impl<'a, R: AllocGlobal + Clock + Eprint + Files<File = File>> TableWatch<'a, R>
     }
 
     /// Whether the hosts of a table have the same keys as those of the table that was taken in
-    /// last.
+    /// last, and both tables are sealed or neither is.
     pub(crate) fn has_keys_of(&self, table: &HostsTable<'_>) -> bool
-        // The result is true only where the text that was taken in last writes a table, and each
-        // host has the same key file in both tables, or no key in both.
+        // The result is true only where the text that was taken in last writes a table, each host has
+        // the same key file in both tables, or no key in both, and both tables are sealed or neither
+        // is.
         ensures { result ≡ true → HasKeysOf (string_bytes self.now.file.text) table.now }
     {
         match HostsTable::read(self.file.text.as_str()) {
