@@ -22,7 +22,7 @@ help: ## list these targets
 # proved again where its stamp doesn't say that it was proved from these sources
 .SECONDEXPANSION:
 bin/chaosd: $$(if $$(shell tools/stamp check bin/chaosd 2>&1),unstamped)
-	@echo "Proving and building bin/chaosd takes some $$((90 / $$(nproc) > 30 ? 90 / $$(nproc) : 30)) minutes on these $$(nproc) cores; 'make try' needs no proof."
+	@echo "Proving and building bin/chaosd takes some $$((80 / $$(nproc) > 25 ? 80 / $$(nproc) : 25)) minutes on these $$(nproc) cores; 'make try' needs no proof."
 	@RT=$(RT) tools/build chaosd --help
 	install -D -m 644 crates/chaosd/out/chaosd.stamp $@.stamp
 	install crates/chaosd/out/chaosd $@
