@@ -78,10 +78,10 @@ $(PROGRAM_BENCHES:%=bench-%): bench-%: bin/chaosd
 $(BENCHES:%=bench-%): bench-%:
 	@RT=$(RT) python3 bench/beside.py $*
 
-dist: current ## pack the program, its manual page, documents, examples, dissector and licences into a tar file in out/; the file's name says if the program isn't proved
+dist: current ## pack the program, its manual page, documents, examples, dissector and licences into a tar file in out/, with its SHA-256 beside it; the file's name says if the program isn't proved
 	@tools/dist $(PROGRAM) out
 
-deb: current ## pack the same into a Debian package in out/, which dpkg-deb builds and `apt install ./out/FILE` installs
+deb: current ## pack the same into a Debian package in out/, with its SHA-256 beside it, which dpkg-deb builds and `apt install ./out/FILE` installs
 	@tools/dist --deb $(PROGRAM) out
 
 ncp: ## prove the library for C, libchaos_ncp.a, and put it into out/ncp with its header and the example `get`: docs/NCP.md

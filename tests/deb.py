@@ -10,7 +10,7 @@ import sys
 import tempfile
 import unittest
 
-from tests.dist import dead, dist, unproved
+from tests.dist import dead, dist, is_summed, unproved
 from tests.install import PLACES, UNIT, below
 from tests.support import LONG, PATIENCE, PROGRAM, ROOT, Case
 
@@ -118,6 +118,7 @@ class Deb(Case):
     def test_the_same_files_give_the_same_bytes(self):
         again = self.built(PROGRAM, "two")
         self.check("twice the same bytes", [] if again.read_bytes() == self.package.read_bytes() else ["they differ"])
+        self.check("and the SHA-256 is that of the package", is_summed(again))
 
     def test_dpkg_installs_it_and_removes_all_of_it(self):
         if os.geteuid() or not shutil.which("dpkg"):

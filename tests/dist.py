@@ -88,6 +88,13 @@ def unproved(program):
     return asked.stderr.strip() if asked.returncode else ""
 
 
+def is_summed(packed):
+    """What `sha256sum --check` says of a file by the sum that was written beside it, if anything."""
+    words = ["sha256sum", "--check", "--strict", "--quiet", f"{packed.name}.sha256"]
+    ended = subprocess.run(words, cwd=packed.parent, capture_output=True, text=True, timeout=PATIENCE)
+    return [ended.stdout + ended.stderr] if ended.returncode else []
+
+
 def what_is_said(packed):
     """The line of a packed README that says whether its program is proved, and the files of the tar file by name."""
     with tarfile.open(packed) as tar:
@@ -119,6 +126,9 @@ class Dist(Case):
         again = pathlib.Path(dist(PROGRAM, self.room / "two").stdout.strip())
         self.assertEqual(self.packed.name, again.name)
         self.check("twice the same bytes", [] if self.packed.read_bytes() == again.read_bytes() else ["they differ"])
+        self.check("and the SHA-256 is that of the tar file", is_summed(again))
+        again.write_bytes(again.read_bytes() + b"\0")
+        self.check("and of no other", [] if is_summed(again) else ["it passes"])
 
     def test_each_file_of_a_user_is_there_and_none_goes_elsewhere(self):
         with tarfile.open(self.packed) as tar:
