@@ -157,6 +157,14 @@ class Quotations(Checking):
         sources = [plain(text_of(it)) for it in files]
         self.check("each block", [it for it in blocks if not any(it in source for source in sources)] if len(blocks) == 2 else [f"{len(blocks)} blocks"])
 
+    def test_the_pages_on_proofs_have_the_lines_of_the_sources(self):
+        """Each line of a definition or a contract that a page shows stands in crates/, but for its margin and `pub`."""
+        files = [it for form in ("specs/**/*.antt", "src/**/*.rt") for it in sorted((ROOT / "crates").glob(f"*/{form}"))]
+        there = plain(" ".join(it.read_text() for it in files)).replace("pub ", "")
+        for page in ["docs/PROVED.md", "docs/READING_PROOFS.md"]:
+            lines = [plain(line) for block in FENCE.findall(text_of(page)) for line in block.splitlines() if re.search("[≡→]|ensures|requires", line)]
+            self.check(page, [it for it in lines if it.replace("pub ", "") not in there] if len(lines) > 1 else [str(lines)])
+
     def test_addresses_are_their_subnets_and_hosts(self):
         found = re.findall(r"\b(\d+) is host (\d+) of subnet (\d+)", text_of("docs/NETWORK.md") + text_of("README.md"))
         wrong = [f"{it[0]} isn't host {it[1]} of subnet {it[2]}" for it in found if int(it[0], 8) != int(it[2], 8) * 0o400 + int(it[1], 8)]
