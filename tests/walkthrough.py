@@ -15,7 +15,7 @@ from tests.bridge import bridging
 from tests.chudp import VECTORS
 from tests.dist import timeless
 from tests.pages import FENCE, text_of
-from tests.support import DONE, LONG, PATIENCE, PROGRAM, REFUSED, ROOT, Case, at, finished, folder, free_ports, line_of, stored_problems
+from tests.support import BAD_LINE, DONE, LONG, PATIENCE, PROGRAM, REFUSED, ROOT, Case, at, finished, folder, free_ports, line_of, stored_problems
 
 SCRIPT = b"T1  LOGIN LISPM\nT2 H1 OPEN WRITE^A.LISP\nT3 H1 WRITE^(A)\nT4 H1 CLOSE\n"
 SOURCE = b"(DEFUN HELLO ())\n"
@@ -230,7 +230,21 @@ class Operating(Typed):
             key.chmod(0o600)
             (here.here / "hosts").write_text(here.here_of(FENCE.findall(section_of("docs/OPERATING.md", "## The hosts table"))[0]))
             peers = ["402=192.0.2.7:9002", "*=192.0.2.1:42042"]
+            line = re.search(r"`(chaosd serve --turns 0 .*?)`", text_of("docs/OPERATING.md"))[1].replace("FILE", "hosts").replace("FOLDER", "files")
+            self.check(f"$ {line}", here.run(line).problems(DONE, b"", [b"0 turns are over"]))
             self.check_serves(here, "chaosd serve --hosts hosts files", "host 401 serves files at 0.0.0.0:9001", *peers)
+            (here.here / "bad").write_text("401 nonsense self\n")
+            ended = here.run(line.replace("hosts files", "bad files"))
+            self.check("a bad line is reported, and nothing is opened", ended.problems(BAD_LINE, b"", [b"line 1: 'nonsense' is no UDP address"]))
+
+    def test_a_server_says_that_it_is_there(self):
+        line = re.search(r"`(echo \| chaosd ask .*?)`", text_of("docs/OPERATING.md"))[1]
+        with shell() as here:
+            (here.here / "files").mkdir()
+            (here.here / "table").write_text(here.here_of("401 192.0.2.1:9001 lispm\n402 192.0.2.7:9002 self\n"))
+            self.check_serves(here, "chaosd serve 401 192.0.2.1:9001 files 402=192.0.2.7:9002", "host 401")
+            wanted = b"it refused the connection: No server for this contact name.\n"
+            self.check(f"$ {line}", here.run(line, here.here / "table").problems(REFUSED, b"no reply\n", [wanted]))
 
     @unittest.skipUnless(shutil.which("nft"), "nft isn't there: `apt-get install nftables` gives it")
     def test_the_lines_for_nftables_are_understood(self):
