@@ -306,6 +306,24 @@ class Networks(Typed):
             self.check_serves(here, line.replace("BRIDGE", "192.0.2.40"), "to *=192.0.2.40:42042")
 
 
+class Vectors(Typed):
+    """The lines of examples/vectors/README.md."""
+
+    def test_a_file_is_reported_and_captured(self):
+        lines = [line for block in FENCE.findall(text_of("examples/vectors/README.md")) for line, _ in typed_in(block)]
+        self.check("two lines", [] if len(lines) == 2 else lines)
+        text = text_of("examples/vectors/session.txt")
+        with shell() as here:
+            reports = "\n\n".join(re.findall(r"^[0-9A-F]{2} .*\n((?:  .*\n)+)", text, re.M)).replace("\n\n\n", "\n\n")
+            self.check_line(here, lines[0], re.sub(r"^  ", "", reports, flags=re.M))
+            if not shutil.which("text2pcap"):
+                self.skipTest("text2pcap isn't there: `apt-get install tshark` gives it")
+            self.check(f"$ {lines[1]}", here.run(lines[1]).problems(DONE))
+            held = (here.here / "session.pcap").read_bytes()
+            datagrams = re.findall(r"^[0-9A-F]{2} .*$", text, re.M)
+            self.check("each datagram is in the capture", [it for it in datagrams if bytes.fromhex(it) not in held])
+
+
 @unittest.skipUnless(shutil.which("sbcl"), "sbcl isn't there: `apt-get install sbcl` gives it")
 class Lisp(Typed):
     """The lines of examples/lisp/README.md."""
