@@ -9,7 +9,7 @@ import tempfile
 from tests.support import PATIENCE, ROOT, Checking
 
 # The files that name the version, and those that the tool reads beside them.
-FILES = ["crates/chaosd_line/src/help.rt", "docs/chaosd.1", "docs/OPERATING.md", "tests/line.py"]
+FILES = ["crates/chaosd_line/src/help.rt", "docs/chaosd.1", "docs/OPERATING.md", "tests/followed.txt", "tests/line.py"]
 COPIED = [*FILES, "CHANGELOG.md", "tools/version"]
 FROM, TO = "0.1.0", "7.8.9"
 
