@@ -165,6 +165,12 @@ class Quotations(Checking):
             lines = [plain(line) for block in FENCE.findall(text_of(page)) for line in block.splitlines() if re.search("[≡→]|ensures|requires", line)]
             self.check(page, [it for it in lines if it.replace("pub ", "") not in there] if len(lines) > 1 else [str(lines)])
 
+    def test_each_example_is_named_by_a_page(self):
+        pages = " ".join(text_of(it) for it in [*PAGES, "docs/PROTOCOL.md"])
+        files = [it for it in sorted((ROOT / "examples").rglob("*")) if it.is_file() and "__pycache__" not in it.parts]
+        wrong = [str(it) for it in files if it.name != "README.md" and it.name not in pages and f"`{it.stem}`" not in pages and f"{it.stem}." not in pages]
+        self.check("each file", wrong if len(files) > 30 else [f"{len(files)} files"])
+
     def test_addresses_are_their_subnets_and_hosts(self):
         found = re.findall(r"\b(\d+) is host (\d+) of subnet (\d+)", text_of("docs/NETWORK.md") + text_of("README.md"))
         wrong = [f"{it[0]} isn't host {it[1]} of subnet {it[2]}" for it in found if int(it[0], 8) != int(it[2], 8) * 0o400 + int(it[1], 8)]
