@@ -1,16 +1,20 @@
-"""Tries limits that docs/OPERATING.md names, and that no other test tries."""
+"""Tries limits that docs/OPERATING.md and docs/SECURITY.md name, and that no other test tries."""
 
 import os
 import pathlib
 import re
+import select
+import socket
 import subprocess
+import time
 
 from tests.hosts import ServingTable, place, written
+from tests.packets import DATA, OPN, RFC, SNS, STS, datagram
 from tests.pages import text_of
 from tests.sealing import called, sealed_serving
 from tests.support import (
-    DONE, FAULT, FOR_LONG, LONG, PROGRAM, Case, Relay, Serving, at, finished, folder, free_ports, mixed_content, network_before, run,
-    stored_problems,
+    CLIENT, DONE, FAULT, FOR_LONG, LONG, PROGRAM, SERVER, Case, Relay, Serving, at, finished, folder, free_ports, mixed_content,
+    network_before, run, serving, stored_problems,
 )  # fmt: skip
 
 PAGE = text_of("docs/OPERATING.md")
@@ -119,3 +123,50 @@ class Times(Case):
         turns = int(re.search(r"turn takes some 10 ms \[default: (\d+)\]", run(["serve", "--help"]).out.decode())[1])
         days = int(re.search(r"An idle server ends after (\d+) days", PAGE)[1])
         self.check("days", [] if days == turns // 100 // 86_400 else [f"{turns} turns are {turns / 8_640_000} days"])
+
+
+class Drawn(Case):
+    """What a forged packet draws to the host that it names: docs/SECURITY.md has the counts."""
+
+    seconds = 40
+
+    # The bytes of the longest text of a CLS, and of what CHUDP adds to a packet beside the own carriage's four.
+    LONGEST_TEXT, MORE_IN_CHUDP = len("No server for this contact name."), 6
+
+    def drawn(self, server, *packet):
+        """The socket of a server's peer, which has sent one packet and hears what comes."""
+        peer = socket.socket(socket.AF_INET, socket.SOCK_DGRAM)
+        self.addCleanup(peer.close)
+        peer.bind(("127.0.0.1", server.peers[0]))
+        peer.sendto(datagram(*packet), ("127.0.0.1", server.port))
+        return peer
+
+    def test_a_request_draws_so_many_datagrams_and_no_more(self):
+        said = re.search(r"One request of (\d+) bytes draws (\d+) datagrams of (\d+) bytes in 30 seconds, and (\d+) with `--retransmit 100`", text_of("docs/SECURITY.md"))
+        asks, usual, drawn, often = map(int, said.groups())
+        request = (RFC, (SERVER, 0), (CLIENT, 5), 5, 0, b"FILE")
+        self.check("the request's bytes", [] if len(datagram(*request)) == asks else [str(len(datagram(*request)))])
+        with serving() as first, serving(options=["--retransmit", "100"]) as second:
+            came = {self.drawn(server, *request): [] for server in (first, second)}
+            end = time.monotonic() + 36
+            while (left := end - time.monotonic()) > 0:
+                for peer in select.select(list(came), [], [], left)[0]:
+                    came[peer].append(peer.recv(2_048))
+        for most, seen in zip((usual, often), came.values()):
+            opened = [it for it in seen if it[4] == OPN]
+            problems = [] if 5 < len(opened) <= most + 1 and {len(it) for it in opened} == {drawn} else [f"{len(opened)} came"]
+            self.check(f"at most {most}", problems)
+
+    def test_any_other_packet_draws_one_answer_of_so_many_bytes_at_most(self):
+        most = int(re.search(r"Any other packet draws one answer at most, of (\d+) bytes at most", text_of("docs/SECURITY.md"))[1])
+        with serving() as server:
+            for op, index, data in [(RFC, 0, b"NONE"), (DATA, 1, b"x"), (SNS, 1, b""), (STS, 1, bytes(4)), (0o12, 1, b""), (0o5, 1, b"")]:
+                peer = self.drawn(server, op, (SERVER, index), (CLIENT, 9), 5, 0, data)
+                seen = []
+                while select.select([peer], [], [], 0.3)[0]:
+                    seen.append(len(peer.recv(2_048)))
+                peer.close()
+                problems = [] if len(seen) < 2 and all(it + self.MORE_IN_CHUDP <= most for it in seen) else [str(seen)]
+                self.check(f"opcode {op:o}", problems)
+        longest = 20 + self.LONGEST_TEXT + self.MORE_IN_CHUDP
+        self.check("the longest is a CLS in CHUDP", [] if longest == most else [str(longest)])
