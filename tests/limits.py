@@ -8,6 +8,7 @@ import socket
 import subprocess
 import time
 
+from tests.flood import Packet
 from tests.hosts import ServingTable, place, written
 from tests.packets import DATA, OPN, RFC, SNS, STS, datagram
 from tests.pages import text_of
@@ -160,13 +161,17 @@ class Drawn(Case):
     def test_any_other_packet_draws_one_answer_of_so_many_bytes_at_most(self):
         most = int(re.search(r"Any other packet draws one answer at most, of (\d+) bytes at most", text_of("docs/SECURITY.md"))[1])
         with serving() as server:
+            peer = self.drawn(server, STS, (SERVER, 1), (CLIENT, 8), 5, 0, bytes(4))
             for op, index, data in [(RFC, 0, b"NONE"), (DATA, 1, b"x"), (SNS, 1, b""), (STS, 1, bytes(4)), (0o12, 1, b""), (0o5, 1, b"")]:
-                peer = self.drawn(server, op, (SERVER, index), (CLIENT, 9), 5, 0, data)
-                seen = []
-                while select.select([peer], [], [], 0.3)[0]:
-                    seen.append(len(peer.recv(2_048)))
-                peer.close()
-                problems = [] if len(seen) < 2 and all(it + self.MORE_IN_CHUDP <= most for it in seen) else [str(seen)]
+                # what is drawn by the request that follows comes behind all that the packet draws
+                for packet in [(op, (SERVER, index), (CLIENT, 9), 5, 0, data), (RFC, (SERVER, 0), (CLIENT, 7), 5, 0, b"NONE")]:
+                    peer.sendto(datagram(*packet), ("127.0.0.1", server.port))
+                peer.settimeout(LONG)
+                seen = [peer.recv(2_048)]
+                while Packet(seen[-1]).for_index != 7:
+                    seen.append(peer.recv(2_048))
+                sizes = [len(it) for it in seen if Packet(it).for_index == 9]
+                problems = [] if len(sizes) < 2 and all(it + self.MORE_IN_CHUDP <= most for it in sizes) else [str(sizes)]
                 self.check(f"opcode {op:o}", problems)
         longest = 20 + self.LONGEST_TEXT + self.MORE_IN_CHUDP
         self.check("the longest is a CLS in CHUDP", [] if longest == most else [str(longest)])
