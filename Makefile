@@ -5,14 +5,15 @@ RT ?= rt
 # the program that `dist` and `install` take; name another with PROGRAM=..
 PROGRAM := bin/chaosd
 BENCHES := codec links window host file seal turn
-PROGRAM_BENCHES := lines copies calls show lab loop stack
+PROGRAM_BENCHES := lines copies calls show lab loop stack simulate
 DIALOGUES := out/checked/random_dialogues
 SEALS := out/checked/random_seals
 SEED ?= $(shell date +%s)
 PACKETS ?= 1000000
 DATAGRAMS ?= 1000000
+RUNS ?= 100000
 
-.PHONY: all help try demo test check fmt fmt-check lint wrong-bodies dialogues seals pictures bench $(PROGRAM_BENCHES:%=bench-%) $(BENCHES:%=bench-%) dist deb ncp install uninstall clean unstamped current
+.PHONY: all help try demo test check fmt fmt-check lint wrong-bodies dialogues seals simulate planted coverage pictures bench $(PROGRAM_BENCHES:%=bench-%) $(BENCHES:%=bench-%) dist deb ncp install uninstall clean unstamped current
 
 all: bin/chaosd ## prove the program and all crates below it, and build bin/chaosd
 
@@ -64,6 +65,15 @@ dialogues: ## play random dialogues between two hosts, a million packets from a 
 seals: ## flip bits of a million sealed datagrams from a seed of the clock, none of which may hand a packet up; SEED=.. DATAGRAMS=..
 	@RT=$(RT) tools/checked random_seals
 	@$(SEALS) flips $(SEED) $(DATAGRAMS)
+
+simulate: ## play the whole program in simulated worlds, 100,000 runs from a seed of the clock; SEED=.. RUNS=..
+	@RT=$(RT) tools/simulate --seed $(SEED) --runs $(RUNS) --jobs $$(nproc)
+
+planted: ## plant bugs, one at a time, and print after how many runs the simulator finds each
+	@RT=$(RT) tools/planted
+
+coverage: ## print the lines of the program that no simulated run reached, of 20,000 runs
+	@RT=$(RT) tools/coverage
 
 pictures: ## draw the pictures of the documents again (python3, graphviz)
 	@tools/ladder --pictures docs/pictures

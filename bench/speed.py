@@ -23,11 +23,11 @@ DOCUMENT = ROOT / "docs/SPEED.md"
 LOG = ROOT / "out/bench.log"
 
 # benches of the program, each a script, and those of libraries, which bench/beside.py has
-OF_PROGRAM = ["lines", "copies", "calls", "show", "lab", "loop", "stack"]
+OF_PROGRAM = ["lines", "copies", "calls", "show", "lab", "loop", "stack", "simulate"]
 OF_LIBRARIES = ["codec", "links", "window", "host", "file", "seal", "turn"]
 
 # the tables that benches print whole
-PRINTED = ["lines", "copies", "calls"]
+PRINTED = ["lines", "copies", "calls", "simulate"]
 # how the line of a row begins that misses its aim, of such a table
 MISSED = "missed: "
 

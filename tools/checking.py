@@ -1,4 +1,4 @@
-"""Compiles programs with checks and without proof, and keeps them in out/checked/. `tools/checked` and `tools/tests` stand on it."""
+"""Compiles programs without proof, with checks or fast, and keeps them in out/checked/. `tools/checked` and `tools/tests` stand on it."""
 
 import hashlib
 import os
@@ -13,17 +13,41 @@ import rooms
 
 KEPT = rooms.TOP / "out/checked"
 REFUSER = rooms.TOP / "tests/failmalloc.c"
-LINKER = "toolchain/bin/ld.lld"
+LINKER, COMPILER = "toolchain/bin/ld.lld", "toolchain/bin/clang"
 
 # each `rt` that runs now
 RUNNING = set()
 
+# The words of a script, without the sanitizer's runtime, which is the only archive that is linked as a whole.
+WITHOUT_SANITIZER = """part=
+for word; do
+  shift
+  case $word in
+    --whole-archive) part=sanitizer ;;
+    --no-whole-archive) part= ;;
+    *) [ "$part" ] || set -- "$@" "$word" ;;
+  esac
+done
+"""
 # Links as the kit's linker does and keeps what it made. It fails then, so that nothing is run.
 KEEPING_LINKER = """#!/bin/sh
-{linker} "$@" {refuser} || exit 1
+{words}{linker} "$@" {more} || exit 1
 while [ "$1" != -o ]; do shift; done
 cp "$2" {kept}.part && mv {kept}.part {kept}
 exit 1
+"""
+
+# Compiles as the kit's compiler does, but with its optimizer, without the sanitizer, and with the options that are given.
+FAST_COMPILER = """#!/bin/sh
+for word; do
+  shift
+  case $word in
+    -O0) set -- "$@" {options} ;;
+    -fsanitize=address) ;;
+    *) set -- "$@" "$word" ;;
+  esac
+done
+exec {compiler} "$@"
 """
 
 
@@ -45,18 +69,46 @@ class Wish:
     """A program that is wanted: its name in out/checked/, and of which crates `rt try` is to compile it; or their tests as one program: of
     one crate as they are named there, of several behind the names of their crates."""
 
-    def __init__(self, name, names, is_test):
-        self.name, self.names, self.words = name, names, ["--test"] if is_test else []
+    def __init__(self, name, names, is_test=False):
+        self.name, self.names, self.words, self.environment = name, names, ["--test"] if is_test else [], {}
 
     def furnish(self, room):
         if len(self.names) == 1:
             return rooms.furnish(room, self.names[0])
         return rooms.furnish_together(room, self.name, self.names)
 
+    def texts(self):
+        """What the program is made from, beside the sources and the kit."""
+        return [KEEPING_LINKER, REFUSER.read_text(), str(self.words)]
+
+    def tools(self, room, kept):
+        """The tools that take the place of the kit's, each a script. The linker keeps what it links."""
+        return {LINKER: KEEPING_LINKER.format(words="", linker=kit() / LINKER, more=refuser(room), kept=shlex.quote(str(kept)))}
+
+
+class FastWish(Wish):
+    """A program that is wanted without checks of memory and optimized, with these options of the compiler, and these words more for the
+    linker."""
+
+    options, links = ("-O2",), ()
+
+    def texts(self):
+        return [KEEPING_LINKER, WITHOUT_SANITIZER, FAST_COMPILER, str((self.options, self.links, sorted(self.environment.items())))]
+
+    def tools(self, _, kept):
+        links, options = (" ".join(map(shlex.quote, it)) for it in (self.links, self.options))
+        linker = KEEPING_LINKER.format(words=WITHOUT_SANITIZER, linker=kit() / LINKER, more=links, kept=shlex.quote(str(kept)))
+        return {LINKER: linker, COMPILER: FAST_COMPILER.format(compiler=kit() / COMPILER, options=options)}
+
+
+def fast(name):
+    """The wish for the fast program of a crate."""
+    return FastWish(f"{name}-fast", [name])
+
 
 def sum_of(room, wish):
     """The sum of all that a program is made from, which stands in its room."""
-    parts = [KEEPING_LINKER.encode(), REFUSER.read_bytes(), str(kit()).encode(), (kit() / "KIT-ID").read_bytes(), str(wish.words).encode()]
+    parts = [it.encode() for it in (*wish.texts(), str(kit()), (kit() / "KIT-ID").read_text())]
     for it in sorted(it for it in room.rglob("*") if it.is_file()):
         parts += [str(it.relative_to(room)).encode(), it.read_bytes()]
     return digest(*parts)
@@ -72,13 +124,13 @@ def refuser(room):
     return shlex.quote(str(made))
 
 
-def keeping_kit(room, kept):
-    """Makes a kit of links to the installed one, but for a linker that keeps what it links, and gives its `rt`."""
+def keeping_kit(room, tools):
+    """Makes a kit of links to the installed one, but for these tools, one of which keeps what is linked, and gives its `rt`."""
     real, made = kit(), room / "kit"
     for folder in ("", "bin", "toolchain", "toolchain/bin"):
         (made / folder).mkdir()
         for it in (real / folder).iterdir():
-            if it.relative_to(real).as_posix() not in ("bin", "toolchain", "toolchain/bin", LINKER):
+            if it.relative_to(real).as_posix() not in ("bin", "toolchain", "toolchain/bin", *tools):
                 (made / folder / it.name).symlink_to(it)
     # `rt` looks for its kit behind links
     for it in (made / "bin").glob("rt*"):
@@ -88,17 +140,19 @@ def keeping_kit(room, kept):
     # beside it `rt` lets the prover look for names that a proof would refuse, as dear as the compilation
     (made / "bin/rattle").unlink()
     (made / "bin/rattle").symlink_to(shutil.which("true"))
-    linker = made / LINKER
-    linker.write_text(KEEPING_LINKER.format(linker=real / LINKER, refuser=refuser(room), kept=shlex.quote(str(kept))))
-    linker.chmod(0o755)
+    for name, script in tools.items():
+        (made / name).write_text(script)
+        (made / name).chmod(0o755)
     return made / "bin/rt"
 
 
-def compile_in(room, folder, words):
+def compile_in(room, folder, wish):
     """Compiles the crate in that folder of a room. Gives the program's path, or None, and what was said."""
     kept = room / "kept"
-    how = {"cwd": folder, "env": {**os.environ, "TMPDIR": str(room)}, "stdin": subprocess.DEVNULL, "stdout": subprocess.PIPE}
-    with subprocess.Popen([keeping_kit(room, kept), "try", *words], stderr=subprocess.STDOUT, text=True, errors="replace", **how) as rt:
+    line = [keeping_kit(room, wish.tools(room, kept)), "try", *wish.words]
+    environment = {**os.environ, **wish.environment, "TMPDIR": str(room)}
+    how = {"cwd": folder, "env": environment, "stdin": subprocess.DEVNULL, "stdout": subprocess.PIPE}
+    with subprocess.Popen(line, stderr=subprocess.STDOUT, text=True, errors="replace", **how) as rt:
         RUNNING.add(rt)
         try:
             said = rt.communicate()[0]
@@ -130,7 +184,7 @@ def keep(wish):
         wanted = sum_of(room, wish)
         if program.is_file() and note.is_file() and note.read_text() == f"{wanted} {digest(program.read_bytes())}\n":
             return program
-        kept, said = compile_in(room, folder, wish.words)
+        kept, said = compile_in(room, folder, wish)
         if not kept:
             raise NotCompiled(f"{said}{wish.name} isn't compiled: what is wrong stands above")
         sum_file = room / "sum"

@@ -1,0 +1,101 @@
+//! What a datagram says, in a few words.
+
+/// A packet of a datagram, as a picture names it.
+#[derive(Clone, PartialEq, Eq, Debug)]
+pub struct Packet {
+    pub kind: &'static str,
+    /// Its kind, its number or status, and the text of its data.
+    pub text: String,
+}
+
+/// The longest text of a packet's data that is shown.
+const LONGEST: usize = 36;
+
+fn word(bytes: &[u8], place: usize) -> u16 {
+    u16::from_be_bytes([bytes[2 * place], bytes[2 * place + 1]])
+}
+
+fn kind_of(opcode: u8) -> &'static str {
+    match opcode {
+        1 => "RFC",
+        2 => "OPN",
+        3 => "CLS",
+        5 => "ANS",
+        6 => "SNS",
+        7 => "STS",
+        9 => "LOS",
+        12 => "EOF",
+        128..=191 => "DAT",
+        _ => "packet",
+    }
+}
+
+/// A packet of these words, and how many bytes it has.
+fn packet(bytes: &[u8]) -> Option<(Packet, usize)> {
+    if bytes.len() < 16 {
+        return None;
+    }
+    let count = usize::from(word(bytes, 1) & 0xfff);
+    let size = 16 + count.div_ceil(2) * 2;
+    let data: Vec<u8> = bytes.get(16..size)?.chunks(2).flat_map(|pair| [pair[1], pair[0]]).take(count).collect();
+    let (kind, number, ack) = (kind_of(bytes[0]), word(bytes, 6), word(bytes, 7));
+    let text = match kind {
+        "STS" if count >= 4 => {
+            format!("STS receipt {} window {}", u16::from_le_bytes([data[0], data[1]]), u16::from_le_bytes([data[2], data[3]]))
+        }
+        "RFC" if data.starts_with(b"RTT") => "RFC RTT".into(),
+        "RFC" => format!("RFC {number} {}", shown(&data)),
+        "DAT" => format!("DAT {number} ack {ack} {}", shown(&data)),
+        "OPN" | "EOF" => format!("{kind} {number} ack {ack}"),
+        _ => format!("{kind} {}", shown(&data)),
+    };
+    Some((Packet { kind, text: text.trim_end().into() }, size))
+}
+
+/// A text of FILE as its scripts write it, cut.
+fn shown(data: &[u8]) -> String {
+    let text = crate::script::spelled(data);
+    if text.chars().count() <= LONGEST {
+        text
+    } else {
+        text.chars().take(LONGEST - 2).chain("..".chars()).collect()
+    }
+}
+
+/// The packets of a datagram.
+pub fn packets(datagram: &[u8]) -> Vec<Packet> {
+    let alone = |kind: &'static str| vec![Packet { kind, text: kind.into() }];
+    match datagram {
+        [] => alone("empty"),
+        [0x43, 0x48, 1, 0, words @ ..] => packet(words).map_or(alone("damaged"), |(packet, _)| vec![packet]),
+        [1, 1, 0, 0, words @ ..] => packet(words).map_or(alone("damaged"), |(packet, _)| vec![packet]),
+        [0x43, 0x48, 2, _, words @ ..] => {
+            let (mut rest, mut list) = (words, Vec::new());
+            while let Some((packet, size)) = packet(rest) {
+                list.push(packet);
+                rest = &rest[size..];
+            }
+            list
+        }
+        [0x43, 0x48, 3, 0, ..] => alone("sealed"),
+        _ => alone("damaged"),
+    }
+}
+
+#[cfg(test)]
+mod tests {
+    use super::*;
+
+    #[test]
+    fn packets_are_named() {
+        let request = [0x43, 0x48, 1, 0, 1, 0, 0, 4, 1, 1, 0, 0, 1, 2, 0, 1, 0xff, 0xfe, 0, 0, 0x49, 0x46, 0x45, 0x4c];
+        assert_eq!(packets(&request)[0].text, "RFC 65534 FILE");
+        let mut two = vec![0x43, 0x48, 2, 2];
+        two.extend([&request[4..], &request[4..]].concat());
+        assert_eq!(packets(&two).len(), 2);
+        assert_eq!(
+            (packets(b"CH\x03\x00")[0].kind, packets(b"C")[0].kind, packets(&request[..20])[0].kind),
+            ("sealed", "damaged", "damaged")
+        );
+    }
+}
