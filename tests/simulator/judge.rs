@@ -108,17 +108,20 @@ impl Judge<'_> {
         }
     }
 
-    /// The first operation of a host succeeds if it began when nothing went wrong any more, and while the same server ran. A late packet of
-    /// an earlier run of the host may end a later operation: one index in 256 is the same.
+    /// An operation succeeds if it began when nothing went wrong any more, and while the same server ran, or if it waited for long since
+    /// then. A late packet of an earlier run of the host may end it, since one index in 256 is the same: so it is the first operation of its
+    /// host, or one of which no such packet is late.
     fn judge_success(&mut self, run: &Run) {
         let Some(work) = &run.work else { return };
         let quiet = if self.record.happened.is_empty() { 0 } else { self.record.until };
         let is_served = self.record.runs.iter().any(|it| it.work.is_none() && it.begun <= run.begun && run.ended <= it.ended);
-        let is_first = !self.record.runs.iter().any(|it| it.host == run.host && it.begun < run.begun);
+        let earlier = || self.record.runs.iter().filter(|it| it.host == run.host && it.begun < run.begun);
+        let (is_first, all_ended_well) = (earlier().next().is_none(), earlier().all(|it| it.end == End::Status(0)));
         let has_clocks = self.scenario.seal.has_keys() && self.has(FaultKind::ClockJump);
         let said = String::from_utf8_lossy(&run.errors);
         let waited = run.ended.saturating_sub(quiet.max(run.begun)) >= LONG_WAIT;
-        let is_stalled = waited && (said.contains("no reply came in") || said.contains("no connection opened in"));
+        let none_is_late = all_ended_well && !self.has(FaultKind::Repeat) && !self.has(FaultKind::Delay);
+        let is_stalled = waited && none_is_late && (said.contains("no reply came in") || said.contains("no connection opened in"));
         let is_spared = (run.begun < quiet || !is_first) && !is_stalled;
         if is_spared || !is_served || has_clocks || self.scenario.pace.most > MOST_USUAL || run.is_final {
             return;
