@@ -243,7 +243,7 @@ class Packets(Case):
         host, new = (SERVER, 0), (SERVER, 1)
         with peer_of() as (_, peer):
             self.check("a peer without a connection is answered to the byte, or not at all", unconnected_problems(peer, host, new))
-            self.check("a peer opens, asks and closes, each packet to the byte", session_problems(peer, host, new))
+            self.check("a peer opens, asks and closes, each packet to the byte", session_problems(peer, host))
 
     def test_what_has_a_fault_gets_no_answer(self):
         host = (SERVER, 0)
@@ -275,7 +275,7 @@ class Packets(Case):
                 for dst in (0, SERVER):
                     peer.send(op, (dst, 0), peer.me, 0, 0, b"\x01\x00\x0a\x00")
                     self.check(f"opcode {op:o} to {dst:06o}", asked(peer, 3))
-            self.check("a session", session_problems(peer, (SERVER, 0), (SERVER, 1)))
+            self.check("a session", session_problems(peer, (SERVER, 0)))
 
 
 class Hops(Case):

@@ -256,7 +256,8 @@ class Asking(Case):
         with serving(options=["--only-peers"]) as server:
             with socket.socket(socket.AF_INET, socket.SOCK_DGRAM) as liar:
                 liar.sendto(datagram(RFC, (SERVER, 0), (CLIENT, 5), 5, 0, b"FILE"), ("127.0.0.1", server.port))
-                liar.sendto(datagram(DATA, (SERVER, 1), (CLIENT, 5), 6, 0, b"T  DELETE"), ("127.0.0.1", server.port))
+                for first in range(1, 65_536, 256):
+                    liar.sendto(datagram(DATA, (SERVER, first), (CLIENT, 5), 6, 0, b"T  DELETE"), ("127.0.0.1", server.port))
                 problems = [] if run(server.words(), CHANGES).status == DONE else ["its own peer is not served"]
             lines = ended(server, connections=1)
             opened = [line for line in lines if " opens connection " in line]

@@ -7,6 +7,7 @@ import contextlib
 import select
 import socket
 import subprocess
+import time
 
 from tests.copying import copied, left_problems
 from tests.packets import CLS, DATA, LOS, OPN, RFC, SNS, Peer, datagram, turned
@@ -268,14 +269,17 @@ class Requests(Case):
             self.check(name, problems)
 
     def test_a_stranger_in_clear_is_not_heard(self):
-        """He gives a Chaosnet address that no host of the table has, and hears no answer. The index of a server's first connection is known."""
-        me, host, new = (STRANGER, 1), (SERVER, 0), (SERVER, 1)
-        blind = [datagram(RFC, host, me, 5, 0, b"FILE"), datagram(DATA, new, me, 6, 0, b"T1  LOGIN M"), datagram(DATA, new, me, 7, 0, b"T2  DELETE\x8dF")]
+        """He gives a Chaosnet address that no host of the table has, and hears no answer. Of the server's first index he tries each generation."""
+        me, host, tried = (STRANGER, 1), (SERVER, 0), [(SERVER, index) for index in range(1, 65_536, 256)]
+        blind = [[datagram(RFC, host, me, 5, 0, b"FILE")]]
+        blind += [[datagram(DATA, new, me, 6, 0, b"T1  LOGIN M"), datagram(DATA, new, me, 7, 0, b"T2  DELETE\x8dF")] for new in tried]
         for is_sealed in (False, True):
             with sealed_serving(is_sealed, of_all=True) as server, contextlib.closing(Elsewhere(server)) as attacker, folder() as here:
                 (server.folder / "F").write_bytes(b"(A)")
-                for one in blind:
-                    attacker.send(one)
+                for each in blind:
+                    for one in each:
+                        attacker.send(one)
+                    time.sleep(0.001)
                 ended = called(server, server, "get", "F", cwd=here)
             if is_sealed:
                 self.check("where each host has a key, a host of no entry deletes nothing", unharmed_problems(ended))
@@ -359,6 +363,14 @@ class Repeating(Recording):
         return [(one, port)] * 3 + [(each, self.server) for each in self.kept[-40::7]]
 
 
+def under_each_generation(kept):
+    """What opened the first connection of a record, and then what was sent over it, under each generation of the server's index."""
+    opened = [one for one in kept if one[14:16] == kept[0][14:16]]
+    yield [one for one in opened if one[4] == RFC]
+    for generation in range(256):
+        yield [one[:10] + bytes([generation]) + one[11:] for one in opened if one[4] != RFC]
+
+
 class Replays(Case):
     """Recorded datagrams."""
 
@@ -417,14 +429,18 @@ class Replays(Case):
             self.check_hellos("at a server that was restarted", came, attacker)
 
     def test_the_same_in_clear_is_done_again(self):
+        """A server that was restarted draws another generation for its indices, so the put is sent under each of them."""
         with sealed_serving(False) as server, folder() as here:
             kept, problems = self.recorded(server, here)
             self.undo(server)
             server.end()
             server.begin()
-            _, came, more = self.replayed(server, kept)
-            problems += more + ([] if self.undone_problems(server) else ["nothing was done"])
-            self.check("in clear a restarted server does it again", problems + ([] if came else ["nothing came"]))
+            with victim_of(server) as (attacker, waiting):
+                for group in under_each_generation(kept):
+                    for one in group:
+                        attacker.send(one)
+                    problems += waiting.wait()
+            self.check("in clear a restarted server does it again", problems + ([] if self.undone_problems(server) else ["nothing was done"]))
 
     def test_a_network_that_repeats_everything_changes_nothing(self):
         with sealed_serving() as server, folder() as here:

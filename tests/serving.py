@@ -301,13 +301,14 @@ def unconnected_problems(peer, host, new):
     return problems
 
 
-def session_problems(peer, host, new):
-    """What differs where a peer opens the connection, asks and closes it."""
+def session_problems(peer, host):
+    """What differs where a peer opens the connection of the first place, asks and closes it."""
     me, window = peer.me, USUAL_WINDOW
     peer.send(RFC, host, me, 5, 0, b"FILE and more")
     opened = peer.receive()
-    first = struct.unpack(">H", opened[16:18])[0]
-    problems = [] if opened == peer.framed(OPN, me, new, first, 5, struct.pack("<2H", 5, window)) else [opened.hex(" ")]
+    index, first = struct.unpack(">2H", opened[14:18])
+    new = (host[0], index)
+    problems = [] if index % 256 == 1 and opened == peer.framed(OPN, me, new, first, 5, struct.pack("<2H", 5, window)) else [opened.hex(" ")]
     peer.send(SNS, new, me, 0, first)
     problems += peer.problems("SNS", STS, me, new, 0, 5, struct.pack("<2H", 5, window))
     peer.send(DATA, new, me, 7, first, b"T  DELETE\x8dA")
@@ -330,7 +331,7 @@ class Packets(Case):
         host, new = (SERVER, 0), (SERVER, 1)
         with serving(peers=2) as server, contextlib.closing(Peer(server)) as peer:
             self.check("a peer without a connection is answered to the byte, or not at all", unconnected_problems(peer, host, new))
-            self.check("a peer opens, asks and closes, each packet to the byte", session_problems(peer, host, new))
+            self.check("a peer opens, asks and closes, each packet to the byte", session_problems(peer, host))
             for n in range(17):
                 peer.send(RFC, host, (CLIENT, n + 1), 5, 0, b"FILE")
             ops = [peer.receive()[4] for _ in range(17)]
@@ -339,6 +340,25 @@ class Packets(Case):
             said = [b"refused the connection: Connection table full."]
             problems = ended.problems(REFUSED, NO_REPLY, said)
             self.check("ask: a request that is turned away has no reply, status 3, at once, and its text is told", problems)
+
+
+class Indices(Case):
+    """The indices of a server's connections."""
+
+    def test_each_run_draws_the_generation_of_its_first_index(self):
+        seen = []
+        for _ in range(6):
+            with serving() as server, contextlib.closing(Peer(server)) as peer:
+                indices = []
+                for n in range(3):
+                    peer.send(RFC, (SERVER, 0), (CLIENT, n + 1), 5, 0, b"FILE")
+                    indices.append(struct.unpack(">H", peer.receive()[14:16])[0])
+                seen.append(indices)
+        alike = [indices for indices in seen if {index >> 8 for index in indices} != {indices[0] >> 8}]
+        places = [indices for indices in seen if [index % 256 for index in indices] != [1, 2, 3]]
+        self.check("all slots of a run begin with the same generation", alike)
+        self.check("an index has its place", places)
+        self.check("six runs don't have the same generation", [] if len({indices[0] >> 8 for indices in seen}) > 1 else seen)
 
 
 class Signals(Case):

@@ -11,11 +11,11 @@ use arrayvec::ArrayVec;
 use chaos_chudp::ChudpLink;
 use chaos_file::{DirStore, PrintedName, ReadOnly, Store};
 use chaos_link::{Link, MAX_PEERS, Peers, Reports, UdpLink};
-use chaos_node::ClockMoments;
+use chaos_node::{ClockMoments, Epoch};
 use chaos_sealed_socket::SealedSocket;
 use chaosd_call::{
-    ExitStatus, HostKey, TableFile, config_of, hops_of, hosts_in, report_table, report_unopened,
-    seals_of, table_of_line,
+    ExitStatus, HostKey, TableFile, config_of, epoch_of, hops_of, hosts_in, report_table,
+    report_unopened, seals_of, table_of_line,
 };
 use chaosd_hosts::{DatagramForm, FollowedHosts, Host};
 use chaosd_io::RunFault;
@@ -100,8 +100,8 @@ fn serve_store<R: AllocGlobal + Clock + Eprint + Files<File = File>, L: Link + R
     }
 }
 
-/// The options of the service that a line asks for, at this end.
-fn options_of(line: &Serve<'_>, ends: &ServeEnds) -> ServeOptions
+/// The options of the service that a line asks for, at this end, in this run.
+fn options_of(line: &Serve<'_>, ends: &ServeEnds, epoch: Epoch) -> ServeOptions
     // The host has the address of the end.
     ensures me { result.me ≡ ends.now.address }
     // The connections have the line's windows and its time to send again.
@@ -110,12 +110,15 @@ fn options_of(line: &Serve<'_>, ends: &ServeEnds) -> ServeOptions
     ensures turns { result.turns ≡ line.now.turns }
     // Packets go out in the carriage of the line's framing.
     ensures carriage { result.carriage ≡ carriage_of line.now.framing }
+    // As many indices of each slot are passed over as the run says.
+    ensures passed { result.passed ≡ epoch.passed }
 {
     ServeOptions {
         me: ends.address,
         config: config_of(line.window, line.retransmit),
         turns: u64::from(line.turns),
         carriage: line.framing.carriage(),
+        passed: epoch.passed(),
     }
 }
 
@@ -202,16 +205,30 @@ fn keeper_of<'a, R: AllocGlobal + Clock + Eprint + Files<File = File>>(
     }
 }
 
+/// A run that begins now, with indices that nobody can guess. That the clock can't be read is
+/// reported, and the error is the status.
+fn begun<R: Clock + Eprint + Files<File = File>>(rt: &R) -> Result<Epoch, ExitStatus> {
+    match epoch_of(rt) {
+        Ok(epoch) => Ok(epoch),
+        Err(fault) => {
+            let fault = RunFault::from(fault);
+            let _ = eprintln!(rt; "chaosd: {fault}");
+            Err(ExitStatus::of_fault(fault))
+        }
+    }
+}
+
 /// Serves a folder over a socket, and logs what comes and goes.
 fn serve_folder<R: AllocGlobal + Clock + Eprint + Files<File = File> + Net>(
     rt: &R,
     line: &Serve<'_>,
+    epoch: Epoch,
     place: Place,
     folder: DirStore<&R>,
     socket: ServerSocket<'_, R>,
 ) -> ExitStatus {
     let Place { ends, table, .. } = place;
-    let options = options_of(line, &ends);
+    let options = options_of(line, &ends, epoch);
     let peers = match ends.peers.clone() {
         Ok(peers) => peers,
         Err(error) => return report_unopened(rt, &ends.socket, &io::Error::from(error)),
@@ -325,8 +342,12 @@ where
         Ok(bound) => bound,
         Err(error) => return report_unopened(rt, &socket, &error),
     };
+    let epoch = match begun(rt) {
+        Ok(epoch) => epoch,
+        Err(status) => return status,
+    };
     match sealed_over(rt, &line, &place, bound) {
-        Ok(sealed) => serve_folder(rt, &line, place, folder, sealed),
+        Ok(sealed) => serve_folder(rt, &line, epoch, place, folder, sealed),
         Err(status) => status,
     }
 }

@@ -17,7 +17,7 @@ pub served_by_clock : {S A : Type 0} (changes : S → S → StoreChange) (carria
     (turns address : ℕ) (store store' : S) (queue queue' : Option QueueView) (end : Result A NodeFault)
     → BeginsBy Shows Dates epoch → config ≡ usual_config → starts ≡ number_of epoch
     → ((moments : List ℕ) → read moments → All (IsMoment Shows epoch) moments)
-    → ServesBy changes carriage read asked starts config turns address store store' queue queue' end
+    → ServesBy changes carriage read asked starts config turns address 0 store store' queue queue' end
     → OnOk end (Serves changes carriage asked Shows Dates turns address store store' queue queue')
 served_by_clock changes carriage starts Shows Dates epoch read asked config turns address store store' queue queue' (Err fault)
     begins usual by shown served = tt
@@ -30,7 +30,7 @@ served_by_clock changes carriage starts Shows Dates epoch read asked config turn
       shown moments was,
       were,
       count,
-      subst (λ (v : ConfigView). ServesAt changes carriage (number_of epoch) moments asks v address store store' queue queue')
+      subst (λ (v : ConfigView). ServesAt changes carriage (number_of epoch) moments asks v address 0 store store' queue queue')
           usual
-          (subst (λ (f : ℕ → ℕ). ServesAt changes carriage f moments asks config address store store' queue queue') by made),
+          (subst (λ (f : ℕ → ℕ). ServesAt changes carriage f moments asks config address 0 store store' queue queue') by made),
     )

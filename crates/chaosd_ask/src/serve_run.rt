@@ -39,9 +39,10 @@ pub fn run_serve<C: ReadableClock, L: Link, S: Store>(
     // An error is `NoMemory`, `LinkFault`, or `ClockFault` where the clock is one that may fail.
     ensures faults { IfErr result (IsServeFault (C.fails clock.now)) }
     // If the run ends well, it made all its turns, each at a moment that the clock may show since
-    // the run began. The turns are those of `run_serve_by`, with the usual configuration. A
-    // connection numbers what it writes from the low 16 bits of the milliseconds since 1970 at the
-    // moment of its request. The link was asked exactly what these turns ask.
+    // the run began. The turns are those of `run_serve_by`, with the usual configuration, where no
+    // index is passed over. A connection numbers what it writes from the low 16 bits of the
+    // milliseconds since 1970 at the moment of its request. The link was asked exactly what these
+    // turns ask.
     ensures turns { OnOk result
         (Serves (change S.contents S.may_give S.count) carriage
         (Asks (L.asked link.old) (L.asked link.new)) (C.shows clock.now) (C.dates clock.now)
@@ -58,6 +59,7 @@ pub fn run_serve<C: ReadableClock, L: Link, S: Store>(
         config,
         turns,
         carriage,
+        passed: 0,
     };
     run_serve_by(&mut moments, alloc, link, store, options, &mut Silent)?;
     Ok(())

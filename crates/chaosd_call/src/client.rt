@@ -51,7 +51,10 @@ fn drawn<R: Files<File = File>>(rt: &R) -> io::Result<(u16, u8)> {
 
 /// A run that begins now, with first numbers and indices that nobody can guess. Where the system
 /// gives no random bytes, they come from the clock.
-fn epoch_of<R: ReadableClock + Files<File = File>>(rt: &R) -> Result<Epoch, NodeFault> {
+///
+/// # Errors
+/// `Clock` where the clock can't be read.
+pub fn epoch_of<R: ReadableClock + Files<File = File>>(rt: &R) -> Result<Epoch, NodeFault> {
     match drawn(rt) {
         Ok((first, passed)) => Epoch::drawn(rt, first, passed),
         Err(_) => Epoch::new(rt),

@@ -26,7 +26,7 @@ mod seals;
 mod table_file;
 mod waiting;
 
-pub use client::{contact_of, patience_of};
+pub use client::{contact_of, epoch_of, patience_of};
 pub use config::config_of;
 pub use dialogs::run_work;
 pub use exit_status::ExitStatus;

@@ -60,9 +60,9 @@ module _ {S : Type 0} (changes : S → S → StoreChange) (carriage : Carriage) 
 
   -- so has the run
   pub logged_by : {A : Type 0} (read : List ℕ → Type 0) (asked : List Ask → Type 0) (config : ConfigView)
-      (turns address made : ℕ) (store : Logged S) (queue : Option QueueView) (last : LoggedService S) (end : Result A NodeFault)
-      → HasLogged read asked made (new_logged config address store queue) last → MadeTurns end turns made
-      → LogsBy changes carriage starts read asked config turns address store last.station.node.store queue
+      (turns address passed made : ℕ) (store : Logged S) (queue : Option QueueView) (last : LoggedService S) (end : Result A NodeFault)
+      → HasLogged read asked made (new_logged config address passed store queue) last → MadeTurns end turns made
+      → LogsBy changes carriage starts read asked config turns address passed store last.station.node.store queue
       last.station.queue end
-  logged_by read asked config turns address made store queue last end (moments, asks, was, were, count, turned) ends =
+  logged_by read asked config turns address passed made store queue last end (moments, asks, was, were, count, turned) ends =
       (moments, asks, was, were, subst (MadeTurns end turns) (sym count) ends, (last, turned, refl, refl))

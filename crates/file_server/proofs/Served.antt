@@ -123,8 +123,8 @@ module _ {S : Type 0} (changes : S → S → StoreChange) (carriage : Carriage) 
 
   -- so has the run
   pub served_by : {A : Type 0} (read : List ℕ → Type 0) (asked : List Ask → Type 0) (config : ConfigView)
-      (turns address made : ℕ) (store : S) (queue : Option QueueView) (last : Station (Server S)) (end : Result A NodeFault)
-      → HasServed read asked made (new_service config address store queue) last → MadeTurns end turns made
-      → ServesBy changes carriage read asked starts config turns address store last.node.store queue last.queue end
-  served_by read asked config turns address made store queue last end (moments, asks, was, were, count, turned) ends =
+      (turns address passed made : ℕ) (store : S) (queue : Option QueueView) (last : Station (Server S)) (end : Result A NodeFault)
+      → HasServed read asked made (new_service config address passed store queue) last → MadeTurns end turns made
+      → ServesBy changes carriage read asked starts config turns address passed store last.node.store queue last.queue end
+  served_by read asked config turns address passed made store queue last end (moments, asks, was, were, count, turned) ends =
       (moments, asks, was, were, subst (MadeTurns end turns) (sym count) ends, (last, turned, refl, refl))

@@ -27,10 +27,10 @@ module _ {S : Type 0} where
   abbrev pub with_log : Option (List Event) → Station (Server (Logged S)) → Station (Server (Logged S))
   with_log logged station = record station { node = record station.node { store = (station.node.store.0, logged) } }
 
-  -- one that has made no turn yet
-  abbrev pub new_logged : ConfigView → ℕ → Logged S → Option QueueView → LoggedService S
-  new_logged config address store queue =
-      record { station = new_service config address store queue; seen = replicate SERVER_CONNS None }
+  -- one that has made no turn yet, and has passed over so many indices of each slot
+  abbrev pub new_logged : ConfigView → ℕ → ℕ → Logged S → Option QueueView → LoggedService S
+  new_logged config address passed store queue =
+      record { station = new_service config address passed store queue; seen = replicate SERVER_CONNS None }
 
 module _ {S : Type 0} (changes : S → S → StoreChange) (carriage : Carriage) (starts : ℕ → ℕ) where
   -- One turn of a service, at this moment, in which the link was asked just this. The turn logged whose datagram came and
@@ -49,9 +49,9 @@ module _ {S : Type 0} (changes : S → S → StoreChange) (carriage : Carriage) 
 
   -- However the run ended, as many turns were made and logged as moments were read since it began: each turn at the moment
   -- that was read for it, in the order in which they were read. Nothing else was logged.
-  abbrev pub LogsBy : {A : Type 0} → (List ℕ → Type 0) → (List Ask → Type 0) → ConfigView → ℕ → ℕ → Logged S → Logged S
+  abbrev pub LogsBy : {A : Type 0} → (List ℕ → Type 0) → (List Ask → Type 0) → ConfigView → ℕ → ℕ → ℕ → Logged S → Logged S
       → Option QueueView → Option QueueView → Result A NodeFault → Type 0
-  LogsBy read asked config turns address store store' queue queue' end = (moments : List ℕ) × (asks : List Ask)
+  LogsBy read asked config turns address passed store store' queue queue' end = (moments : List ℕ) × (asks : List Ask)
       × read moments × asked asks × MadeTurns end turns (length moments)
-      × ((last : LoggedService S) × MakesTurns LogsTurnAt moments asks (new_logged config address store queue) last
+      × ((last : LoggedService S) × MakesTurns LogsTurnAt moments asks (new_logged config address passed store queue) last
       × (last.station.node.store ≡ store') × (last.station.queue ≡ queue'))

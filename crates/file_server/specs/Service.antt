@@ -12,6 +12,7 @@ use Rattle.chaos_node.specs.declared.limits.TheConstants.{TURN_ROOM}
 use Rattle.chaos_node.specs.Clock.{BeginsBy, IsMoment, number_of}
 use Rattle.chaos_node.specs.declared.clock.Epoch.{Epoch}
 use Rattle.chaos_node.specs.declared.fault.NodeFault.{NodeFault}
+use Rattle.file_server.specs.Passing.{after_passing}
 use Rattle.file_server.specs.Serve.{mode_of}
 use Rattle.file_server.specs.Server.{Server, server}
 use Rattle.file_server.specs.Sessions.{new_serving}
@@ -25,6 +26,10 @@ abbrev pub listening_host : ConfigView → ℕ → HostView
 listening_host config address =
     after_listen (listen_fault [] (codes "FILE")) (new_host address SERVER_CONNS config) (codes "FILE")
 
+-- such a host, each of whose slots has used up so many indices
+abbrev pub host_after : ℕ → ConfigView → ℕ → HostView
+host_after passed config address = after_passing address passed (listening_host config address)
+
 -- A run that ended well made all its turns; a run that a fault ended made at most so many.
 abbrev pub MadeTurns : {A : Type 0} → Result A NodeFault → ℕ → ℕ → Type 0
 MadeTurns (Ok end) turns made = made ≡ turns
@@ -35,10 +40,10 @@ module _ {S : Type 0} where
   abbrev pub service_of : FileServer → S → Option QueueView → Station (Server S)
   service_of s store queue = station (server s.node.host s.sessions store) queue s.node.out
 
-  -- one that has made no turn yet
-  abbrev pub new_service : ConfigView → ℕ → S → Option QueueView → Station (Server S)
-  new_service config address store queue =
-      station (server (listening_host config address) (replicate SERVER_CONNS new_serving) store) queue
+  -- one that has made no turn yet, and has passed over so many indices of each slot
+  abbrev pub new_service : ConfigView → ℕ → ℕ → S → Option QueueView → Station (Server S)
+  new_service config address passed store queue =
+      station (server (host_after passed config address) (replicate SERVER_CONNS new_serving) store) queue
       (record { packets = []; cap = TURN_ROOM })
 
 -- One turn at each of these moments, one after another, in which the link was asked just this.
@@ -61,25 +66,26 @@ module _ {S : Type 0} (changes : S → S → StoreChange) (carriage : Carriage) 
   abbrev pub ServesTurns : (ℕ → ℕ) → List ℕ → List Ask → Station (Server S) → Station (Server S) → Type 0
   ServesTurns starts = MakesTurns (ServesTurn starts)
 
-  -- A new service of this configuration and address made these turns on a store and over a link.
-  abbrev pub ServesAt : (ℕ → ℕ) → List ℕ → List Ask → ConfigView → ℕ → S → S → Option QueueView → Option QueueView
+  -- A new service of this configuration and address, which passed over so many indices of each slot, made these turns on a store and
+  -- over a link.
+  abbrev pub ServesAt : (ℕ → ℕ) → List ℕ → List Ask → ConfigView → ℕ → ℕ → S → S → Option QueueView → Option QueueView
       → Type 0
-  ServesAt starts moments asks config address store store' queue queue' = (last : Station (Server S))
-      × ServesTurns starts moments asks (new_service config address store queue) last
+  ServesAt starts moments asks config address passed store store' queue queue' = (last : Station (Server S))
+      × ServesTurns starts moments asks (new_service config address passed store queue) last
       × (last.node.store ≡ store') × (last.queue ≡ queue')
 
   -- However the run ended, as many turns were made as moments were read since it began: each turn at the moment that was
   -- read for it, in the order in which they were read. The link was asked what these turns asked, and nothing else.
-  abbrev pub ServesBy : {A : Type 0} → (List ℕ → Type 0) → (List Ask → Type 0) → (ℕ → ℕ) → ConfigView → ℕ → ℕ → S → S
+  abbrev pub ServesBy : {A : Type 0} → (List ℕ → Type 0) → (List Ask → Type 0) → (ℕ → ℕ) → ConfigView → ℕ → ℕ → ℕ → S → S
       → Option QueueView → Option QueueView → Result A NodeFault → Type 0
-  ServesBy read asked starts config turns address store store' queue queue' end = (moments : List ℕ) × (asks : List Ask)
+  ServesBy read asked starts config turns address passed store store' queue queue' end = (moments : List ℕ) × (asks : List Ask)
       × read moments × asked asks × MadeTurns end turns (length moments)
-      × ServesAt starts moments asks config address store store' queue queue'
+      × ServesAt starts moments asks config address passed store store' queue queue'
 
-  -- So many turns of a service of the usual configuration, each at a moment of this clock.
+  -- So many turns of a service of the usual configuration that passed over no index, each at a moment of this clock.
   abbrev pub Serves : (List Ask → Type 0) → (ℕ → Type 0) → (ℕ → Type 0) → ℕ → ℕ → S → S → Option QueueView
       → Option QueueView → Type 0
   Serves asked Shows Dates turns address store store' queue queue' = (epoch : Epoch) × (moments : List ℕ)
       × (asks : List Ask) × BeginsBy Shows Dates epoch × All (IsMoment Shows epoch) moments × asked asks
       × (length moments ≡ turns)
-      × ServesAt (number_of epoch) moments asks usual_config address store store' queue queue'
+      × ServesAt (number_of epoch) moments asks usual_config address 0 store store' queue queue'

@@ -28,10 +28,13 @@ pub struct ServeOptions {
     pub turns: u64,
     /// As which datagrams its packets go out.
     pub carriage: Carriage,
+    /// How many indices of each slot are passed over, which an older process may have had.
+    pub passed: u8,
 }
 
 /// Serves FILE on a store, by these options. The host has 16 connections, and listens to `FILE`. The
-/// address isn't 0.
+/// address isn't 0. The host passes over as many indices of each slot as the options say, and sends
+/// nothing for that.
 ///
 /// Each turn is made at the moment that is read for it, behind the turn before. If the store fails
 /// in a command, the client gets an error as its reply, and the service goes on. A turn waits only
@@ -59,14 +62,15 @@ pub fn run_serve_by<M: Moments, L: Link, S: Store, G: LinkLog<L>>(
     // However the run ends, it made one turn at each moment that it read, in order, and read each
     // moment behind the turn before. If it ends well, it made all turns, otherwise at most so many.
     // Each turn is the definition's, with `SILENT_MILLIS`, of a service of this address and
-    // configuration that began with 16 new sessions. By carriage 2 a turn serves each connection in
+    // configuration that began with 16 new sessions, and whose slots have each used up so many
+    // indices. By carriage 2 a turn serves each connection in
     // a burst. A new connection numbers what it writes from the number of its moment. What came is
     // known only over a queue. Whatever the link is, it was asked exactly what these turns ask, turn
     // by turn. Each turn waits for a datagram exactly where nothing in front can be served.
     ensures turns { ServesBy (change S.contents S.may_give S.count) options.carriage
         (Reads (M.read moments.old) (M.read moments.new))
         (Asks (L.asked link.old) (L.asked link.new)) (M.starts (M.time moments.old)) options.config
-        options.turns options.me store.old store.new (L.queue link.old) (L.queue link.new) result }
+        options.turns options.me options.passed store.old store.new (L.queue link.old) (L.queue link.new) result }
     // What the log holds afterwards is what it held before, and behind that what each of these turns
     // logged, turn by turn. A turn logs first whose datagram came, and from where by the link's
     // report. Then it logs what each command that it served changed, in order, with the peer of its
@@ -75,7 +79,7 @@ pub fn run_serve_by<M: Moments, L: Link, S: Store, G: LinkLog<L>>(
     ensures logs { LogsBy (change S.contents S.may_give S.count) options.carriage
         (M.starts (M.time moments.old)) (Reads (M.read moments.old) (M.read moments.new))
         (Asks (L.asked link.old) (L.asked link.new)) options.config options.turns options.me
-        (store.old, G.logged log.old) (store.new, G.logged log.new) (L.queue link.old)
+        options.passed (store.old, G.logged log.old) (store.new, G.logged log.new) (L.queue link.old)
         (L.queue link.new) result }
     // The run ends well only if the link's count of failures didn't rise. It ends by `Link`
     // only if failures were counted.
@@ -83,6 +87,7 @@ pub fn run_serve_by<M: Moments, L: Link, S: Store, G: LinkLog<L>>(
     ensures failed { result ≡ Err NodeFault.Link → 0 < L.count link.new }
 {
     let mut server = Server::new(alloc, options.me, options.config, options.carriage)?;
+    server.pass_indices(options.me, options.passed);
     let mut watch = Watch::new();
     for turn in 0..options.turns {
         let now = moments.next()?;

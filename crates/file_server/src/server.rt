@@ -3,6 +3,7 @@ ghost use Rattle.std.specs.Prelude.{◌≡◌, ◌<◌, ◌↔◌, length, IfErr
 
 use crate::limits::{SERVER_CONNS, SILENT_MILLIS};
 use crate::log::{LinkLog, Log};
+use crate::passing::pass_indices;
 use crate::phases::take_turn;
 use crate::serve_mode::ServeMode;
 use crate::sessions::Sessions;
@@ -38,6 +39,7 @@ impl Server {
     ghost use Rattle.file_server.specs.Sessions.{new_serving};
     ghost use Rattle.file_server.specs.declared.limits.TheConstants.{SILENT_MILLIS};
     ghost use Rattle.file_server.specs.Logged.{IsReadOf, LogsTurn};
+    ghost use Rattle.file_server.specs.Passing.{after_passing};
     ghost use Rattle.file_server.specs.Serve.{mode_of};
     ghost use Rattle.file_server.specs.Service.{listening_host, service_of};
     ghost use Rattle.file_server.specs.Turn.{RunsTurn};
@@ -85,6 +87,19 @@ impl Server {
             }),
             Err(_) => Err(NodeFault::NoMemory),
         }
+    }
+
+    /// Passes over so many indices of each slot, which an older process may have had. Nothing waits
+    /// in the outbox yet.
+    pub(crate) fn pass_indices(&mut self, to: u16, count: u8)
+        requires { self.old.node.out.packets ≡ [] }
+        ensures host { self.new.node.host
+            ≡ after_passing to count self.old.node.host }
+        ensures sessions { self.new.sessions ≡ self.old.sessions }
+        ensures out { self.new.node.out ≡ self.old.node.out }
+        ensures carriage { self.new.node.carriage ≡ self.old.node.carriage }
+    {
+        pass_indices(&mut self.node.host, to, count, &mut self.node.out);
     }
 
     /// One turn, as [`run_turn`](crate::run_turn) makes it. By carriage 2 each connection is served

@@ -26,8 +26,8 @@ pub returns-in_err-server-clause-turns : goal.returns-in_err-server-clause-turns
 returns-in_err-server-clause-turns g c =
     served_by _ _ _ (Reads (g.M.Moments.read c.args.moments.now) (g.M.Moments.read c.args.moments.now))
     (Asks (g.L.Link.asked c.args.link.now) (g.L.Link.asked c.args.link.now)) c.args.options.config
-    c.args.options.turns c.args.options.me 0 c.args.store.now (g.L.Link.queue c.args.link.now)
-    (new_service c.args.options.config c.args.options.me c.args.store.now (g.L.Link.queue c.args.link.now))
+    c.args.options.turns c.args.options.me c.args.options.passed 0 c.args.store.now (g.L.Link.queue c.args.link.now)
+    (new_service c.args.options.config c.args.options.me c.args.options.passed c.args.store.now (g.L.Link.queue c.args.link.now))
     c.from_residual.result (made_none _ (g.M.Moments.read c.args.moments.now) (g.L.Link.asked c.args.link.now) _ _ refl)
     (made_to_fault c.from_residual.result c.args.options.turns 0 c.from_residual.ensures.0 (omega arith))
 
@@ -35,7 +35,7 @@ pub returns-in_err-now-clause-turns : goal.returns-in_err-now-clause-turns
 returns-in_err-now-clause-turns g c =
     served_by _ _ _ (Reads (g.M.Moments.read c.args.moments.now) (g.M.Moments.read c.next.new.self))
     (Asks (g.L.Link.asked c.args.link.now) (g.L.Link.asked c.loop-turn.link)) c.args.options.config
-    c.args.options.turns c.args.options.me c.loop-turn.turn c.args.store.now (g.L.Link.queue c.args.link.now)
+    c.args.options.turns c.args.options.me c.args.options.passed c.loop-turn.turn c.args.store.now (g.L.Link.queue c.args.link.now)
     (service_of c.loop-turn.server c.loop-turn.store (g.L.Link.queue c.loop-turn.link))
     c.from_residual-in_err-now.result
     (made_still _ (g.M.Moments.read c.args.moments.now) (g.M.Moments.read c.loop-turn.moments)
@@ -47,7 +47,7 @@ pub returns-then-eq-clause-turns : goal.returns-then-eq-clause-turns
 returns-then-eq-clause-turns g c =
     served_by _ _ _ {A = Unit {0}} (Reads (g.M.Moments.read c.args.moments.now) (g.M.Moments.read c.next.new.self))
     (Asks (g.L.Link.asked c.args.link.now) (g.L.Link.asked c.turn-end.new.link)) c.args.options.config
-    c.args.options.turns c.args.options.me (c.loop-turn.turn + 1) c.args.store.now (g.L.Link.queue c.args.link.now)
+    c.args.options.turns c.args.options.me c.args.options.passed (c.loop-turn.turn + 1) c.args.store.now (g.L.Link.queue c.args.link.now)
     (service_of c.turn-end.new.self c.turn-end.new.store (g.L.Link.queue c.turn-end.new.link)) (Err Link)
     (served_next _ _ _ (g.M.Moments.read c.args.moments.now) (g.M.Moments.read c.loop-turn.moments)
     (g.M.Moments.read c.next.new.self) (g.L.Link.asked c.args.link.now) (g.L.Link.asked c.loop-turn.link)
@@ -103,7 +103,7 @@ returns-clause-turns g c =
     let all : c.loop-turn.turn ≡ c.args.options.turns = omega arith in
     served_by _ _ _ (Reads (g.M.Moments.read c.args.moments.now) (g.M.Moments.read c.loop-turn.moments))
     (Asks (g.L.Link.asked c.args.link.now) (g.L.Link.asked c.loop-turn.link)) c.args.options.config
-    c.args.options.turns c.args.options.me c.loop-turn.turn c.args.store.now (g.L.Link.queue c.args.link.now)
+    c.args.options.turns c.args.options.me c.args.options.passed c.loop-turn.turn c.args.store.now (g.L.Link.queue c.args.link.now)
     (service_of c.loop-turn.server c.loop-turn.store (g.L.Link.queue c.loop-turn.link)) (Ok (tt {0}))
     c.loop-turn.invariant.served all
 
@@ -115,8 +115,8 @@ returns-in_err-server-clause-logs g c =
     logged_by changes c.args.options.carriage (g.M.Moments.starts (g.M.Moments.time c.args.moments.now))
     (Reads (g.M.Moments.read c.args.moments.now) (g.M.Moments.read c.args.moments.now))
     (Asks (g.L.Link.asked c.args.link.now) (g.L.Link.asked c.args.link.now)) c.args.options.config
-    c.args.options.turns c.args.options.me 0 (c.args.store.now, g.G.Log.logged c.args.log.now) (g.L.Link.queue c.args.link.now)
-    (new_logged c.args.options.config c.args.options.me (c.args.store.now, g.G.Log.logged c.args.log.now) (g.L.Link.queue c.args.link.now))
+    c.args.options.turns c.args.options.me c.args.options.passed 0 (c.args.store.now, g.G.Log.logged c.args.log.now) (g.L.Link.queue c.args.link.now)
+    (new_logged c.args.options.config c.args.options.me c.args.options.passed (c.args.store.now, g.G.Log.logged c.args.log.now) (g.L.Link.queue c.args.link.now))
     c.from_residual.result (made_none _ (g.M.Moments.read c.args.moments.now) (g.L.Link.asked c.args.link.now) _ _ refl)
     (made_to_fault c.from_residual.result c.args.options.turns 0 c.from_residual.ensures.0 (omega arith))
 
@@ -126,7 +126,7 @@ returns-in_err-now-clause-logs g c =
     logged_by changes c.args.options.carriage (g.M.Moments.starts (g.M.Moments.time c.args.moments.now))
     (Reads (g.M.Moments.read c.args.moments.now) (g.M.Moments.read c.next.new.self))
     (Asks (g.L.Link.asked c.args.link.now) (g.L.Link.asked c.loop-turn.link)) c.args.options.config
-    c.args.options.turns c.args.options.me c.loop-turn.turn (c.args.store.now, g.G.Log.logged c.args.log.now)
+    c.args.options.turns c.args.options.me c.args.options.passed c.loop-turn.turn (c.args.store.now, g.G.Log.logged c.args.log.now)
     (g.L.Link.queue c.args.link.now)
     (record {
       station =
@@ -145,7 +145,7 @@ returns-then-eq-clause-logs g c =
     logged_by changes c.args.options.carriage (g.M.Moments.starts (g.M.Moments.time c.args.moments.now))
     {A = Unit {0}} (Reads (g.M.Moments.read c.args.moments.now) (g.M.Moments.read c.next.new.self))
     (Asks (g.L.Link.asked c.args.link.now) (g.L.Link.asked c.turn-end.new.link)) c.args.options.config
-    c.args.options.turns c.args.options.me (c.loop-turn.turn + 1) (c.args.store.now, g.G.Log.logged c.args.log.now)
+    c.args.options.turns c.args.options.me c.args.options.passed (c.loop-turn.turn + 1) (c.args.store.now, g.G.Log.logged c.args.log.now)
     (g.L.Link.queue c.args.link.now) _ (Err Link)
     (made_next _ (g.M.Moments.read c.args.moments.now) (g.M.Moments.read c.loop-turn.moments)
     (g.M.Moments.read c.next.new.self) (g.L.Link.asked c.args.link.now) (g.L.Link.asked c.loop-turn.link)
@@ -178,7 +178,7 @@ returns-clause-logs g c =
     (g.M.Moments.starts (g.M.Moments.time c.args.moments.now))
     (Reads (g.M.Moments.read c.args.moments.now) (g.M.Moments.read c.loop-turn.moments))
     (Asks (g.L.Link.asked c.args.link.now) (g.L.Link.asked c.loop-turn.link)) c.args.options.config
-    c.args.options.turns c.args.options.me c.loop-turn.turn (c.args.store.now, g.G.Log.logged c.args.log.now)
+    c.args.options.turns c.args.options.me c.args.options.passed c.loop-turn.turn (c.args.store.now, g.G.Log.logged c.args.log.now)
     (g.L.Link.queue c.args.link.now)
     (record {
       station =

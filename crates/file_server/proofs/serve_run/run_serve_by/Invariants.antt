@@ -18,13 +18,13 @@ invariant-loop-turn g l = record {
       (g.M.Moments.starts (g.M.Moments.time l.fn.moments))
       (Reads (g.M.Moments.read l.fn.moments) (g.M.Moments.read l.moments))
       (Asks (g.L.Link.asked l.fn.link) (g.L.Link.asked l.link)) l.turn
-      (new_service l.fn.options.config l.fn.options.me l.fn.store (g.L.Link.queue l.fn.link))
+      (new_service l.fn.options.config l.fn.options.me l.fn.options.passed l.fn.store (g.L.Link.queue l.fn.link))
       (service_of l.server l.store (g.L.Link.queue l.link));
   logged : HasLogged (change g.S.Store.contents g.S.Store.may_give g.S.Store.count) l.fn.options.carriage
       (g.M.Moments.starts (g.M.Moments.time l.fn.moments))
       (Reads (g.M.Moments.read l.fn.moments) (g.M.Moments.read l.moments))
       (Asks (g.L.Link.asked l.fn.link) (g.L.Link.asked l.link)) l.turn
-      (new_logged l.fn.options.config l.fn.options.me (l.fn.store, g.G.Log.logged l.fn.log) (g.L.Link.queue l.fn.link))
+      (new_logged l.fn.options.config l.fn.options.me l.fn.options.passed (l.fn.store, g.G.Log.logged l.fn.log) (g.L.Link.queue l.fn.link))
       (record {
         station = service_of l.server (l.store, g.G.Log.logged l.log) (g.L.Link.queue l.link);
         seen = l.watch.seen;

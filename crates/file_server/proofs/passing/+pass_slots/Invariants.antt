@@ -1,0 +1,5 @@
+use Rattle.file_server.proofs.passing.+pass_slots.Given as goal
+
+-- fewer slots are left
+abbrev pub decreases-pass_slots : goal.decreases-pass_slots
+decreases-pass_slots l = l.slots
