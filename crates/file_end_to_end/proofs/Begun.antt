@@ -4,6 +4,7 @@ use Rattle.std.specs.Prelude.{nat_lt, slice_get}
 use Rattle.std.proofs.lemmas.Bool.{cases_lt}
 use Rattle.std.proofs.lemmas.List.{get_or-replicate, get_or_past, length-replicate}
 use Rattle.std.proofs.lemmas.List.Elements.{All-cons, All-nil}
+use Rattle.std.proofs.lemmas.Option.{slice_get-get_or}
 use Rattle.chaos_packet.specs.Packet.{PacketView}
 use Rattle.chaos_packet.specs.Words.{Spells, spelling_of}
 use Rattle.chaos_packet.proofs.Packing.{spelling_spells}
@@ -34,7 +35,7 @@ use Rattle.chaos_lab.specs.declared.side.Side.TheVariants.{A, B}
 use Rattle.chaos_link.specs.declared.carriage.Carriage.TheVariants.{One}
 use Rattle.chaos_link.specs.Link.{Addressed}
 use Rattle.chaos_link.specs.Loads.{EachSpelled}
-use Rattle.chaos_net.specs.Net.{IsOwn}
+use Rattle.chaos_net.specs.Net.{IsOwn, present}
 use Rattle.chaos_node.specs.Link.{read_all, sent_by}
 use Rattle.chaos_net.specs.MadeTurns.{packets_sent}
 use Rattle.chaos_net.specs.System.{IsNewSeat, Seat, System, TakesCall}
@@ -44,14 +45,26 @@ use Rattle.chaos_net.proofs.Behind.{at_both}
 use Rattle.file_client.specs.Calls.{after_passing, given_up, pass_index}
 use Rattle.file_client.specs.Caller.{CallerView, new_caller}
 use Rattle.file_server.specs.Server.{Server, server}
-use Rattle.file_server.specs.Service.{listening_host}
+use Rattle.file_server.specs.Passing as served
+use Rattle.file_server.specs.Service.{host_after, listening_host}
 use Rattle.file_server.specs.Sessions.{new_serving, serving_at}
 use Rattle.file_server.specs.declared.limits.TheConstants.{SERVER_CONNS}
 use Rattle.file_net.specs.FileNet.{FileNet}
 use Rattle.file_end_to_end.specs.Program.{Program, program_host, program_turns}
 use Rattle.file_end_to_end.specs.System.{FileStandsFor}
 use Rattle.file_end_to_end.specs.World.{World, system_by, IsNewWorld, WorldsBegin}
-use Rattle.file_end_to_end.proofs.Systems.{client_calls, new_file_systems_stand, step_follows}
+use Rattle.chaos_node.specs.Phase.{Effect}
+use Rattle.chaos_link.specs.Loads.{packets_of}
+use Rattle.chaos_net.specs.Net.NetEvent.{At}
+use Rattle.chaos_net.proofs.Made.{packets_both}
+use Rattle.chaos_net.proofs.Network.{reached_is_played}
+use Rattle.file_net.proofs.Kept.{reached_is_sound}
+use Rattle.file_net.specs.FileNet.{Nets, file_happens, is_by_server}
+use Rattle.file_end_to_end.specs.Server.{IsOld}
+use Rattle.file_end_to_end.proofs.Client.{IsOfNet, net_service}
+use Rattle.file_end_to_end.proofs.Led.{IsLed, both_led, none_led, own_led}
+use Rattle.file_end_to_end.proofs.Passed.{AreFree, new_are_free, passed_are_free}
+use Rattle.file_end_to_end.proofs.Systems.{Any, client_calls, more_reached, moved_on, new_file_systems_stand, step_follows}
 
 -- ---- what is given up is spelled
 
@@ -121,6 +134,73 @@ end_spelled v id = by_slot (named_slot v.slots id)
     by_slot : (o : Option Slot) → EachSpelled (end_slot v id (Close []) o).packets
     by_slot None = tt
     by_slot (Some slot) = close_spelled slot.conn
+
+both_spelled : (ps qs : List PacketView) → EachSpelled ps → EachSpelled qs → EachSpelled (ps ++ qs)
+both_spelled [] qs one two = two
+both_spelled (p ∷ ps) qs one two = (one.0, both_spelled ps qs one.1 two)
+
+-- ---- what the server gives up
+
+-- events of B lead to this host at B, and what B sent meanwhile is spelled
+record IsPassed (f g : FileNet) (h : HostView) : Type 0 where
+  lots : List (List PacketView)
+  spelled : EachSpelled (packets_of lots)
+  led : IsLed IsOfNet B f g (record { host = h; lots = lots })
+
+abbrev Passes : FileNet → HostView → Type 0
+Passes f h = (g : FileNet) × IsPassed f g h
+
+stays_passed : (f : FileNet) → Passes f (f.net B).host
+stays_passed f = (f, record { lots = []; spelled = tt; led = none_led IsOfNet B f })
+
+then_passed : (f : FileNet) (h : HostView) (next : HostView → HostView) → Passes f h
+    → ((g : FileNet) → Passes g (next (g.net B).host)) → Passes f (next h)
+then_passed f h next (g, one) more =
+    let k : FileNet = (more g).0 in
+    let two : IsPassed g k (next h) = subst (λ (v : HostView). IsPassed g k (next v)) one.led.host (more g).1 in (
+      k,
+      record {
+        lots = one.lots ++ two.lots;
+        spelled =
+            subst EachSpelled (sym (packets_both one.lots two.lots))
+            (both_spelled (packets_of one.lots) (packets_of two.lots) one.spelled two.spelled);
+        led =
+            both_led IsOfNet B f g k (record { host = h; lots = one.lots }) (record { host = next h; lots = two.lots }) one.led
+            two.led;
+      },
+    )
+
+event_passed : (f : FileNet) (event : HostEvent) → IsOwn event → is_by_server (At B event) ≡ false
+    → EachSpelled (host_made (f.net B).host event).packets → Passes f (host_made (f.net B).host event).view
+event_passed f event own free spelled = (
+  file_happens f (Nets (At B event)),
+  record {
+    lots = (host_made (f.net B).host event).packets ∷ [];
+    spelled = subst EachSpelled (sym (append-nil (host_made (f.net B).host event).packets)) spelled;
+    led = own_led IsOfNet B f event own free tt;
+  },
+)
+
+gives_up : (answer : ConnectAnswer) (f : FileNet) → Passes f (served.given_up answer (f.net B).host)
+gives_up (Ok id) f = event_passed f (Ends id (Close [])) refl refl (end_spelled (f.net B).host id)
+gives_up (Err fault) f = stays_passed f
+
+slots_passed : (to k : ℕ) (f : FileNet) → Passes f (served.pass_slots to k (f.net B).host)
+slots_passed to zero f = stays_passed f
+slots_passed to (suc k) f =
+    let asked : HostActed ConnectAnswer = host_connect (f.net B).host to (codes "FILE") 0 0 in
+    then_passed f asked.view (λ (v : HostView). served.given_up asked.answer (served.pass_slots to k v))
+    (event_passed f (Connects to (codes "FILE") 0 0) (lit< tt) refl (connect_spelled (f.net B).host to))
+    (λ (g : FileNet).
+    then_passed g (served.pass_slots to k (g.net B).host) (served.given_up asked.answer) (slots_passed to k g)
+    (gives_up asked.answer))
+
+indices_passed : (to count : ℕ) (f : FileNet) → Passes f (served.after_passing to count (f.net B).host)
+indices_passed to zero f = stays_passed f
+indices_passed to (suc count) f =
+    let slots : ℕ = length (f.net B).host.slots in
+    then_passed f (served.after_passing to count (f.net B).host) (served.pass_slots to slots) (indices_passed to count f)
+    (slots_passed to slots)
 
 -- ---- the engine
 
@@ -253,20 +333,69 @@ module _ {S : Type 0} (contents : S → Option Files) (may_give : S → List ℕ
       (record { own = tt; host = refl; waiting = refl; posts = refl }, refl) (refl, refl) tt in
       ([], r.net, r.stands)
 
+  -- The server's host passed over indices, and what it sent is lost.
+  server_passed : (c : CallerView) (posts : List Addressed) (h : HostView) (store : S) (to n : ℕ) (f : FileNet)
+      → length h.slots ≡ SERVER_CONNS → AreFree h.slots
+      → FileStandsFor contents m (system_by c posts (seat_with h store)) f
+      → (gone : List Addressed) × (g : FileNet)
+      × FileStandsFor contents m (system_by c posts (record (seat_with (served.after_passing to n h) store) { posts = gone })) g
+  server_passed c posts h store to n f few free st =
+      let host : (f.net B).host ≡ h = st.net.hosts B in
+      let behind : HostView = served.after_passing to n h in
+      let made : Passes f behind =
+      subst (λ (v : HostView). Passes f (served.after_passing to n v)) host (indices_passed to n f) in
+      let g : FileNet = made.0 in
+      let led : IsLed IsOfNet B f g (record { host = behind; lots = made.1.lots }) = made.1.led in
+      let packets : List PacketView = packets_of made.1.lots in
+      let gone : List Addressed = sent_by One (packets ∷ []) in
+      let seat : Seat (Server S) = record (seat_with behind store) { posts = gone } in
+      let read : read_all gone ++ [] ≡ packets =
+      append-nil (read_all gone)
+      ∙ read_back One (packets ∷ []) (All-cons EachSpelled packets [] made.1.spelled (All-nil EachSpelled))
+      ∙ append-nil packets in
+      let fits : length h.slots ≤ 255 = subst (λ n. n ≤ 255) (sym few) (lit≤ tt) in
+      let back = passed_are_free to n h fits free in
+      let reached = reached_is_sound m g (more_reached contents may_give count m f g led.events st.reached led.run) in
+      let r = moved_on contents may_give count m (Any contents may_give count m) (system_by c posts (seat_with h store))
+      (system_by c posts seat) f g B led.events behind made.1.lots tt st led.run led.host led.sent led.far refl
+      (ap (λ (ps : List PacketView). ps ++ packets) (st.net.sent B) ∙ sym read) refl tt
+      (record {
+        host = led.host;
+        files = st.server.files ∙ ap (λ v. Some v.files) (sym (net_service led.events f g led.run led.kinds));
+        count = st.server.count ∙ sym back.0;
+        slots = λ place within.
+            let slot : Slot = get_or behind.slots place (new_slot behind.config) in
+            let there : slice_get behind.slots place ≡ Some slot =
+            slice_get-get_or behind.slots place (new_slot behind.config) within in
+            let at = ((reached_is_played g.net reached.reached) B).station.slots place slot
+            (ap (λ (v : HostView). slice_get v.slots place) led.host ∙ there) in
+            let none : (g.net B).story (present (g.net B) place) ≡ None = at.free (back.1 place slot there) in
+            record {
+              used = λ s is. let isnt : None ≡ Some s = sym none ∙ is in absurd (cc);
+              free = λ _. subst (IsOld (g.net B).turn place) (sym (new_at SERVER_CONNS place)) tt;
+            };
+      }) in
+      (gone, r.net, r.stands)
+
 pub worlds_begin : {S : Type 0} (contents : S → Option Files) (may_give : S → List ℕ → ℕ → List ℕ → Type 0) (count : S → ℕ)
     (m : Files) → WorldsBegin contents m
 worlds_begin {S} contents may_give count m w new =
     let listening : HostView = listening_host new.server_config new.server_address in
     let seat : Seat (Server S) = seat_with contents may_give count m listening new.store in
-    let same : w.server ≡ seat =
-    λ j. record { program = new.server j; waiting = new.waiting j; posts = new.server_posts j } in
     let (lost, f, st) = passed contents may_give count m seat new.indices new.to (new_host new.me 1 new.config)
     (both_new contents may_give count m w new) in
     let engine : CallerView = new_caller new.me new.to new.config new.carriage new.indices in
     let there : FileStandsFor contents m (system_by engine lost seat) f =
-    same_host contents may_give count m seat engine lost f refl st in (
+    same_host contents may_give count m seat engine lost f refl st in
+    let (gone, g, last) = server_passed contents may_give count m engine lost listening new.store new.server_address new.passed f
+    (length-replicate SERVER_CONNS (new_slot new.server_config)) (new_are_free new.server_config SERVER_CONNS) there in
+    let left : Seat (Server S) =
+    record (seat_with contents may_give count m (host_after new.passed new.server_config new.server_address) new.store) { posts = gone } in
+    let same : record w.server { posts = gone } ≡ left =
+    λ j. record { program = new.server j; waiting = new.waiting j; posts = gone } in (
       lost,
-      f,
-      subst (λ (z : CallerView). FileStandsFor contents m (system_by z lost w.server) f) (sym new.engine)
-          (subst (λ (z : Seat (Server S)). FileStandsFor contents m (system_by engine lost z) f) (sym same) there),
+      gone,
+      g,
+      subst (λ (z : CallerView). FileStandsFor contents m (system_by z lost (record w.server { posts = gone })) g) (sym new.engine)
+          (subst (λ (z : Seat (Server S)). FileStandsFor contents m (system_by engine lost z) g) (sym same) last),
     )

@@ -15,6 +15,7 @@
 --   Saying    what a user says and hears: in events, in a call and in a step of its engine
 --   Idle      a client that is idle is ready for a copy, and idle again behind it
 --   Worlds    moves of an engine and a server: law_world
+--   Passed    a server that passes over indices leaves each slot free
 --   Begun     a new engine and a new server: law_world
 --   Asking    an engine that closes its connection, or asks for one: law_world
 --   Opened    a connection that the host shows open: law_world
@@ -37,6 +38,7 @@ pub mod Systems
 pub mod Saying
 pub mod Idle
 pub mod Worlds
+pub mod Passed
 pub mod Begun
 pub mod Asking
 pub mod Opened

@@ -64,7 +64,7 @@ module _ {S : Type 0} (contents : S → Option Files) (may_give : S → List ℕ
   }
 
   -- one side moved on, and the other did not
-  moved_on : (Kind : FileNet → List FileEvent → Type 0) (s t : System (Program S)) (f g : FileNet) (x : Side)
+  pub moved_on : (Kind : FileNet → List FileEvent → Type 0) (s t : System (Program S)) (f g : FileNet) (x : Side)
       (events : List FileEvent) (host : HostView) (lots : List (List PacketView)) → Kind g events → FileStandsFor contents m s f → FileRun f events g → (g.net x).host ≡ host
       → packets_sent (g.net x) ≡ packets_sent (f.net x) ++ packets_of lots → g.net (other x) ≡ f.net (other x)
       → host ≡ program_host (t x).program

@@ -33,7 +33,7 @@ use Rattle.file_client.specs.Caller.{CallerView, asked, closed, new_caller}
 use Rattle.file_client.specs.Pace.{Pace}
 use Rattle.file_client.specs.Talk.{Talker, Step, Calls as Asks, Turns, Does, command_item, talk_of}
 use Rattle.file_server.specs.Server.{Server, server}
-use Rattle.file_server.specs.Service.{listening_host}
+use Rattle.file_server.specs.Service.{host_after}
 use Rattle.file_server.specs.Sessions.{new_serving}
 use Rattle.file_server.specs.declared.limits.TheConstants.{SERVER_CONNS}
 use Rattle.file_lab.specs.Bodies.{data_bodies}
@@ -168,8 +168,8 @@ module _ {S : Type 0} (contents : S → Option Files) (may_give : S → List ℕ
 -- ---- the start
 
 module _ {S : Type 0} (contents : S → Option Files) (m : Files) where
-  -- A new engine, as `Call::new` makes it for the contact FILE, and a new server, as `serve` makes it, over a store that keeps these
-  -- files. No datagram was posted.
+  -- A new engine, as `Call::new` makes it for the contact FILE, and a new server, as `run_serve_by` makes it, over a store that keeps
+  -- these files. Each has passed over some indices. No datagram was posted.
   pub record IsNewWorld (w : World S) : Type 0 where
     pub me : ℕ
     pub to : ℕ
@@ -186,15 +186,17 @@ module _ {S : Type 0} (contents : S → Option Files) (m : Files) where
     pub served_address_is : make_fault server_address SERVER_CONNS ≡ None
     pub served_config_is : IsConfig server_config
     pub files : contents store ≡ Some m
-    pub server : w.server.program ≡ server (listening_host server_config server_address) (replicate SERVER_CONNS new_serving) store
+    pub passed : ℕ
+    pub server : w.server.program ≡ server (host_after passed server_config server_address) (replicate SERVER_CONNS new_serving) store
     pub waiting : w.server.waiting ≡ []
     pub server_posts : w.server.posts ≡ []
 
-  -- There is a file net that stands for a new world. The requests of the connections that the engine gave up before its first turn
-  -- count as posted and lost.
+  -- There is a file net that stands for a new world. What the connections sent that the engine and the server gave up before their
+  -- first turns counts as posted and lost.
   abbrev pub WorldsBegin : Type 0
   WorldsBegin = (w : World S) → IsNewWorld w
-      → (lost : List Addressed) × (f : FileNet) × FileStandsFor contents m (system_of (record w { posts = lost })) f
+      → (lost gone : List Addressed) × (f : FileNet)
+      × FileStandsFor contents m (system_of (record w { posts = lost; server = record w.server { posts = gone } })) f
 
   -- If the engine closes its connection, or asks for a connection, then a run leads to a file net that stands for the world after
   -- that.

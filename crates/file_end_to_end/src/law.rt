@@ -82,9 +82,9 @@ pub fn law_file_systems<S: Store>()
 /// The law from a client's engine to the files: an engine and a server of FILE at their links, and
 /// the datagrams between the two. A datagram may be lost, late, repeated or out of order.
 pub fn law_world<C: ReadableClock, S: Store>()
-    // There is a file net behind a new engine that asks for FILE and a new server. The requests
-    // that the engine gave up before its first turn count as posted and lost. By `stay` of
-    // `law_file_systems` there is a file net after all their turns.
+    // There is a file net behind a new engine that asks for FILE and a new server, each of which
+    // passed over some indices. What the connections sent that were given up for that counts as
+    // posted and lost. By `stay` of `law_file_systems` there is a file net after all their turns.
     ensures begin { (m : Files) → WorldsBegin S.contents m }
     // When the engine asks for a connection, or closes its connection, a run of events leads to a
     // file net that is behind the engine and the server after that.
