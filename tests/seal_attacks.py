@@ -279,7 +279,7 @@ class Requests(Case):
                 for each in blind:
                     for one in each:
                         attacker.send(one)
-                    time.sleep(0.001)
+                    time.sleep(0.01)
                 ended = called(server, server, "get", "F", cwd=here)
             if is_sealed:
                 self.check("where each host has a key, a host of no entry deletes nothing", unharmed_problems(ended))
@@ -363,14 +363,6 @@ class Repeating(Recording):
         return [(one, port)] * 3 + [(each, self.server) for each in self.kept[-40::7]]
 
 
-def under_each_generation(kept):
-    """What opened the first connection of a record, and then what was sent over it, under each generation of the server's index."""
-    opened = [one for one in kept if one[14:16] == kept[0][14:16]]
-    yield [one for one in opened if one[4] == RFC]
-    for generation in range(256):
-        yield [one[:10] + bytes([generation]) + one[11:] for one in opened if one[4] != RFC]
-
-
 class Replays(Case):
     """Recorded datagrams."""
 
@@ -428,19 +420,21 @@ class Replays(Case):
             self.check("at a server that was restarted it does nothing", problems)
             self.check_hellos("at a server that was restarted", came, attacker)
 
-    def test_the_same_in_clear_is_done_again(self):
-        """A server that was restarted draws another generation for its indices, so the put is sent under each of them."""
+    def test_the_same_in_clear_is_done_again_for_one_who_hears_the_index(self):
+        """He gives each packet the index of the last OPN, which the restarted server has drawn."""
         with sealed_serving(False) as server, folder() as here:
             kept, problems = self.recorded(server, here)
             self.undo(server)
             server.end()
             server.begin()
+            index = b""
             with victim_of(server) as (attacker, waiting):
-                for group in under_each_generation(kept):
-                    for one in group:
-                        attacker.send(one)
+                for one in kept * 2:
+                    attacker.send(one[:10] + index + one[12:] if index and any(one[10:12]) else one)
                     problems += waiting.wait()
-            self.check("in clear a restarted server does it again", problems + ([] if self.undone_problems(server) else ["nothing was done"]))
+                    index = ([each[14:16] for each in attacker.received() if each[4] == OPN] or [index])[-1]
+            problems += [] if self.undone_problems(server) else ["nothing was done"]
+            self.check("in clear a restarted server does it again", problems + ([] if index else ["no OPN came"]))
 
     def test_a_network_that_repeats_everything_changes_nothing(self):
         with sealed_serving() as server, folder() as here:
