@@ -13,6 +13,8 @@ from tests.scripts import NO_REPLY
 from tests.support import DONE, LONG, PATIENCE, REFUSED, Case, Ended, Relay, at, folder, free_ports, network_before, run, serving, started
 
 LOGIN = b"T1  LOGIN LISPM\n"
+NOT_SENT = b"chaosd: not sent: it is no command of FILE (help lists the commands)\n"
+HINT = b"LOGIN was read as a handle: a command without a handle has two spaces before its word, as in `T1  LOGIN LISPM`\n"
 NOT_KEPT = b"chaosd: handle %s was written and not closed, so its file was not kept\n"
 
 
@@ -70,24 +72,24 @@ class Typing(Case):
             terminal = Terminal(server.words())
             try:
                 shown = [terminal.shown(b"> ")]
-                for line in [b"T1 LOGIN LISPM\n", b"T1  L\xc3\xa9\n", LOGIN, b"T2 H OPEN WRITE^A\n", b"T3 H WRITE^(A\\5)\n", b"T4 H WRITE^(A)\n"]:
+                for line in [b"T1 LOGIN LISPM\n", b"T1  L\xc3\xa9\n", b"T1 LOGIN READ\n", LOGIN, b"T2 H OPEN WRITE^A\n", b"T3 H WRITE^(A\\5)\n", b"T4 H WRITE^(A)\n"]:
                     shown.append(terminal.typed(line))
                 shown.append(terminal.typed(b"\x04", NOT_KEPT % b"H"))
                 status = terminal.process.wait(PATIENCE)
             finally:
                 terminal.end()
-        hint = b"chaosd: LOGIN was read as a handle: a command without a handle has two spaces before its word, as in `T1  LOGIN LISPM`\n"
         wanted = [
             b"> ",
-            b"T1 LOGIN ERROR UKC Unknown command.\n" + hint + b"> ",
-            b"chaosd: not sent: byte 6 is not a printable character of ASCII\n" + hint + b"> ",
+            b"chaosd: not sent: " + HINT + b"> ",
+            b"chaosd: not sent: byte 6 is not a printable character of ASCII\n> ",
+            b"T1 LOGIN ERROR NLI Not logged in.\nchaosd: " + HINT + b"> ",
             LOGIN + b"> ",
             b"T2 H OPEN 0\n> ",
             b"chaosd: not sent: each \\ needs two lower-case hexadecimal digits behind it\n> ",
             b"T4 H WRITE 3\n> ",
             NOT_KEPT % b"H",
         ]
-        for name, seen, told in zip(["the prompt", "one space", "a key", "LOGIN", "OPEN", "an escape", "WRITE", "the end"], shown, wanted):
+        for name, seen, told in zip(["the prompt", "one space", "a key", "a handle LOGIN", "LOGIN", "OPEN", "an escape", "WRITE", "the end"], shown, wanted):
             self.check(f"{name} at a terminal", [] if seen.endswith(told) else [f"{seen!r} and not {told!r}"])
         self.check("the run ends", [] if status == DONE else [f"status {status}"])
 
@@ -104,8 +106,11 @@ class Typing(Case):
             (b"RENAME^A^B\n", b"> T6  RENAME^A^B\nT6  RENAME\n> "),
             (b"DELETE^.B\n", b"> T7  DELETE^.B\nT7  ERROR ILP Illegal path.\n> "),
             (b"DELETE^B\n", b"> T8  DELETE^B\nT8  DELETE\n> "),
-            (b"NONSENSE\n", b"  ERROR SYN Bad command syntax.\n> "),
-            (b"H WRITE^" + b"x" * 480 + b"\n", b"  ERROR SYN Bad command syntax.\n> "),
+            (b"NONSENSE\n", NOT_SENT + b"> "),
+            (b"OPEN WRITE A\n", NOT_SENT + b"> "),
+            (b"LOGIN\n", NOT_SENT + b"> "),
+            (b"H WRITE^" + b"x" * 480 + b"\n", NOT_SENT + b"> "),
+            (b"DELETE^B\n", b"> T9  DELETE^B\nT9  ERROR FNF No such file.\n> "),
         ]
         with serving() as server:
             terminal = Terminal(server.words())
@@ -114,6 +119,10 @@ class Typing(Case):
                 for typed, wanted in dialogue:
                     shown = terminal.typed(typed, wanted)
                     self.check(f"{typed[:20]!r}", [] if shown == wanted else [f"{shown!r} and not {wanted!r}"])
+                wanted = b"X9  ERROR FNF No such file.\n> "
+                shown = terminal.typed(b"X9  DEL\x04ETE^B\n", wanted)
+                is_sent = shown.endswith(wanted) and b"not sent" not in shown
+                self.check("a line in two parts, which control-D ends", [] if is_sent else [f"{shown!r}"])
                 os.write(terminal.master, b"quit\n")
                 status = terminal.process.wait(PATIENCE)
             finally:
@@ -128,8 +137,8 @@ class Typing(Case):
                 for word in [b"help\n", b"?\n"]:
                     shown = terminal.typed(word, b"end.\n> ")
                     self.check(f"{word!r}", [] if shown == HELP + b"> " else [f"{shown!r}"])
-                shown = terminal.typed(b"T  quit\n", b"command.\n> ")
-                self.check("a command with that word is sent", [] if shown == b"T  ERROR UKC Unknown command.\n> " else [f"{shown!r}"])
+                shown = terminal.typed(b"T  quit\n")
+                self.check("a line with that word is another", [] if shown == NOT_SENT + b"> " else [f"{shown!r}"])
                 os.write(terminal.master, b"quit\n")
                 status = terminal.process.wait(PATIENCE)
                 left = terminal.shown(b"nothing")

@@ -507,6 +507,7 @@ class Written(Checking):
     """What the program of tests/crates/random_chudp writes, which prints such a line for each of so many random packets."""
 
     seconds = 60
+    needs = ["random_chudp"]
 
     def test_the_lines_of_the_reference_itself_are_right(self):
         dice = random.Random(SEED)

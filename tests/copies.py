@@ -277,3 +277,39 @@ class Terminals(Case):
                 is_told = re.search(wanted + rb"\Z", ended.err) and bool(ended.err) == bool(wanted)
                 problems = ended.problems(DONE, b"") + ([] if is_told else [f"{ended.err!r}"])
                 self.check(f"get {' '.join(options)} on a terminal", problems)
+
+    def test_the_line_has_the_other_name_that_a_file_goes_under(self):
+        """Standard output is no such name, and neither is a name whose last part is the path."""
+        rows = [
+            ("put", ["--rename"], ["a+b", "NONE", "sub/.dot", "sub/A"], FAULT, [b"a+b as a_b", b"sub/.dot as _dot", b"sub/A"]),
+            ("put", ["--as", "B"], ["sub/A"], DONE, [b"sub/A as B"]),
+            ("put", ["--as", "B"], ["xB"], DONE, [b"xB as B"]),
+            ("put", ["--as", "A"], ["sub/A"], DONE, [b"sub/A"]),
+            ("get", ["--output", "C"], ["A"], DONE, [b"A as C"]),
+            ("get", ["--output", "sub/C"], ["A"], DONE, [b"A as sub/C"]),
+            ("get", ["--output", "sub/A"], ["A"], DONE, [b"A"]),
+            ("get", ["--output", "sub/"], ["A"], DONE, [b"A"]),
+            ("get", ["--output", "-"], ["A"], DONE, [b"A"]),
+        ]  # fmt: skip
+        with serving() as server, folder() as here:
+            (here / "sub").mkdir()
+            for name in ["a+b", "xB", "sub/.dot", "sub/A"]:
+                (here / name).write_bytes(name.encode())
+            for subcommand, options, names, status, wanted in rows:
+                ended = shown(server, subcommand, *names, options=options, cwd=here)
+                seen = re.findall(rb"^(?:.*\x1b\[K)?(.*) \d+ bytes, ", ended.err, re.MULTILINE)
+                problems = ended.problems(status) + ([] if seen == wanted else [f"{seen} in {ended.err!r}"])
+                self.check(f"{subcommand} {' '.join(options + names)}", problems)
+            ended = copied(server, "put", "-", options=["--as", "IN", "--verbose"], given=b"x", cwd=here)
+            self.check("put --verbose of standard input", ended.problems(DONE, b"", [b"- as IN 1 bytes, "]))
+
+    def test_a_line_is_told_of_each_change(self):
+        """On a terminal, and with `--verbose` elsewhere."""
+        changes = [(["rename", "A", "B"], b"A renamed to B"), (["delete", "B"], b"B deleted")]
+        with serving() as server:
+            for options, is_told, is_told_elsewhere in [([], True, False), (["--quiet"], False, False), (["--verbose"], True, True)]:
+                for how, is_wanted, end in [(shown, is_told, b"\r\n"), (copied, is_told_elsewhere, b"\n")]:
+                    (server.folder / "A").write_bytes(b"(A)")
+                    for words, line in changes:
+                        problems = how(server, *words, options=options).problems(DONE, b"", line + end if is_wanted else b"")
+                        self.check(f"{' '.join(words[:1] + options)}, {how.__name__}", problems)

@@ -30,7 +30,7 @@ class Nobody(Case):
             silent.bind(("127.0.0.1", server.port))
             begun = time.monotonic()
             ended = copied(server, "get", "A", "B", cwd=here)
-            hint = rb"does a server run at 127\.0\.0\.1:\d+, and does it have 402=127\.0\.0\.1:\d+ as a PEER\? A server that has a key for this host answers under seal alone"
+            hint = rb"does a server run at 127\.0\.0\.1:\d+, and does its hosts table \(or a PEER\) have host 402 at 127\.0\.0\.1:\d+\? A server that has a key for this host answers under seal alone"
             problems = told_problems(ended, rb"chaosd: A: no connection opened in \d{5} ms: " + hint + rb"\nchaosd: B: not tried\n")
             problems += [] if 9 < time.monotonic() - begun else ["it did not wait ten seconds"]
             self.check("get of a host that says nothing: told after ten seconds, the next is not tried", problems)

@@ -132,10 +132,48 @@ class Deb(Case):
         wanted = below(self.top)
         found = {it for it in below(root) if not it.startswith("var/lib/dpkg")}
         self.check("what is unpacked is installed, and no unit is enabled", sorted(found ^ wanted ^ own))
+        self.check("so is the folder of the hosts table", [] if (root / "etc/chaosd").is_dir() else ["it isn't there"])
         self.check("the program runs there", [] if "chaosd" in said_by(root / "usr/bin/chaosd", "--version") else ["it prints something else"])
+        self.check("dpkg verifies the files", said_by(*dpkg, "--verify", "chaosd").splitlines())
+        with (root / "usr/bin/chaosd").open("ab") as program:
+            program.write(b"changed")
+        changed = subprocess.run([*dpkg, "--verify", "chaosd"], capture_output=True, text=True, timeout=LONG).stdout.splitlines()
+        self.check("and names the one that changed", [] if [it.split()[-1] for it in changed] == ["/usr/bin/chaosd"] else changed)
         said_by(*dpkg, "-r", "chaosd")
         left = [it for it in root.rglob("*") if "dpkg" not in it.parts]
         self.check("and all is removed", [str(it) for it in left if it not in (root / "var", root / "var/lib")])
+
+    def test_its_scripts_make_the_user_and_ask_systemd_where_that_runs(self):
+        """`systemctl` and `useradd` are scripts here that note their words, and a folder of its own stands for the one that systemd makes
+        where it runs."""
+        control, tools, running, noted = [self.room / name for name in ("control", "tools", "running", "noted")]
+        said_by("dpkg-deb", "-e", self.package, control)
+        for folder in [tools, running]:
+            folder.mkdir()
+        for name, lines in [("systemctl", f'echo "$@" >> "{noted}"\nexit 1'), ("useradd", f'echo useradd "$@" >> "{noted}"'), ("getent", 'exit "$NO_USER"')]:
+            (tools / name).write_text(f"#!/bin/sh\n{lines}\n")
+            (tools / name).chmod(0o755)
+        reload, restart, stop = "daemon-reload", "try-restart chaosd.service", "disable --now chaosd.service"
+        user = re.search(r"`(useradd .*?)`", (ROOT / "docs/OPERATING.md").read_text())[1]
+        for script, words, more, wanted in [
+            ("postinst", ["configure"], {}, [reload]),
+            ("postinst", ["configure"], {"NO_USER": "2"}, [user, reload]),
+            ("postinst", ["configure"], {"NO_USER": "2", "DPKG_ROOT": "/elsewhere"}, []),
+            ("postinst", ["configure", "0.1.0"], {}, [reload, restart]),
+            ("postinst", ["abort-remove"], {}, []),
+            ("postinst", ["configure", "0.1.0"], {"DPKG_ROOT": "/elsewhere"}, []),
+            ("prerm", ["remove"], {}, [stop]),
+            ("prerm", ["upgrade", "0.3.0"], {}, []),
+            ("prerm", ["remove"], {"DPKG_ROOT": "/elsewhere"}, []),
+        ]:
+            noted.write_text("")
+            text = (control / script).read_text()
+            self.assertIn("/run/systemd/system", text)
+            (control / "here").write_text(text.replace("/run/systemd/system", str(running)))
+            environment = {"PATH": f"{tools}:{os.environ['PATH']}", "NO_USER": "0", **more}
+            ended = subprocess.run(["sh", control / "here", *words], env=environment, capture_output=True, text=True, timeout=PATIENCE)
+            problems = [] if ended.returncode == 0 else [f"status {ended.returncode}: {ended.stderr}"]
+            self.check(f"{script} {words} {more}", problems + ([] if noted.read_text().splitlines() == wanted else [noted.read_text()]))
 
     def test_without_dpkg_deb_one_line_says_what_to_install(self):
         words = [sys.executable, ROOT / "tools/dist", "--deb", PROGRAM, self.room / "none"]

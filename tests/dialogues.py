@@ -45,6 +45,7 @@ class Dialogues(Checking):
     """Runs of random_dialogues."""
 
     seconds = 120
+    needs = ["random_dialogues"]
 
     def test_all_that_a_user_of_each_host_sees_is_as_it_has_to_be(self):
         seeds = [*SEEDS, time.time_ns() // 1_000]

@@ -107,15 +107,20 @@ class Noting(Relay):
         return super().passed(datagram, port)
 
 
-def session(script):
-    """What `ask` printed for a script, and the datagrams between it and `serve`."""
+def watched(command, words, given=b""):
+    """What a client printed, and the datagrams between it and `serve`."""
     with serving() as server:
         (client,) = free_ports(1)
         network = Noting(server.peers[0], server.port, client)
         network.start()
-        ended = run(["ask", "402", at(client), "401", f"401={at(server.peers[0])}"], script)
+        ended = run([command, "402", at(client), *(it.format(f"401={at(server.peers[0])}") for it in words)], given)
         network.close()
     return ended, network.seen
+
+
+def session(script):
+    """What `ask` printed for a script, and the datagrams between it and `serve`."""
+    return watched("ask", ["401", "{}"], script)
 
 
 PARTS = ["tid", "handle", "command", "answer", "user", "mode", "path", "length", "bytes"]
@@ -478,6 +483,26 @@ class Dissector(Dissecting, Case):
         first = {kind: n for n, kind in reversed(list(enumerate(ops, 1)))}
         problems = [] if {RFC, OPN, STS, DATA, EOF, CLS} <= set(first) else [f"there are {ops}"]
         self.check("there are RFC, OPN, STS, data, EOF and CLS", problems)
+
+    def test_a_copy_is_shown_as_its_page_says(self):
+        """The lines that docs/SCRIPTS.md has for a capture while a copy happens, for a capture of one."""
+        ended, seen = watched("put", ["{}", str(HELLO)])
+        self.check("put and serve speak through the relay", ended.problems(DONE))
+        ports, shown = re.search(r"`tshark -i lo -f 'udp portrange ([\d-]+)' -Y (\w+)`", SCRIPTS.read_text()).groups()
+        tables = "".join((ROOT / f"examples/{name}.hosts").read_text() for name in ["client", "server"])
+        of_tables = sorted(set(re.findall(r":(\d+)", tables)))
+        self.check("the ports are those of the examples", [] if ports == f"{of_tables[0]}-{of_tables[-1]}" else [ports])
+        self.check("the filter shows each datagram", differences(self.tshark.frames(seen, shown), list(range(1, len(seen) + 1))))
+        rows = self.tshark.fields(seen, ["chaosnet.file.line"], "-Y", f"{shown}.file and not {shown}.analysis.retransmission")
+        told = [next((it for it in row[0].split("^")[0].split() if it in ("LOGIN", "OPEN", "WRITE", "CLOSE")), None) for row in rows]
+        self.check("the other shows commands and replies", differences(told[::2], told[1::2]) + ([] if len(told) == 8 and all(told) else [str(rows)]))
+        rows = self.tshark.fields(seen, ["chaosnet.op", "chaosnet.contact", "chaosnet.src.index", "chaosnet.dst.index"])
+        asked = [it[2] for it in rows if it[:2] == [str(RFC), "RTT"]]
+        self.check("16 requests measure the round trip", [] if len(set(asked)) == 16 else asked)
+        begun = next(n for n, it in enumerate(rows) if it[:2] == [str(RFC), "FILE"])
+        self.check("the copy begins with them", [] if not {it[2] for it in rows[begun:] if it[1] == "RTT"} - {it[2] for it in rows[:begun]} else [str(rows)])
+        refused = {it[3] for it in rows if it[0] == str(CLS)}
+        self.check("each is answered by a CLS", sorted(set(asked) - refused))
 
     def test_a_reply_names_its_command_and_what_comes_again_is_told(self):
         me, host, new = (CLIENT, 0o1405), (SERVER, 0), (SERVER, 1)

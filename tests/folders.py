@@ -176,6 +176,8 @@ def limit_files():
 class Store(Checking):
     """A folder with a file A, which a store is made of, and rows that are played over it."""
 
+    needs = ["--test", "world_tests"]
+
     def setUp(self):
         self.make_room()
 

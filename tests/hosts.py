@@ -135,6 +135,8 @@ class Tables(Case):
             self.check("the user's", here.run("put", *FOR_LONG, "A", "lispm:").problems(DONE, b"", b""))
             other = written(here.top / "xdg/chaosd/hosts", good.replace("lispm", "elsewhere"))
             self.check("XDG", here.run("put", *FOR_LONG, "A", "elsewhere:", XDG_CONFIG_HOME=str(other.parents[1])).problems(DONE, b"", b""))
+            relative = here.run("put", *FOR_LONG, "A", "lispm:", XDG_CONFIG_HOME="xdg")
+            self.check("a relative path is ignored", relative.problems(DONE, b"", b""))
             named = written(here.top / "named", good.replace("lispm", "named"))
             self.check("the variable", here.run("put", *FOR_LONG, "A", "named:", CHAOSD_HOSTS=str(named)).problems(DONE, b"", b""))
             last = here.run("put", "--hosts", here.table, *FOR_LONG, "A", "lispm:", CHAOSD_HOSTS=str(named))
@@ -187,7 +189,7 @@ class Tables(Case):
 class Served(Case):
     """`serve` by a table that changes."""
 
-    seconds = 20
+    seconds = 45
 
     def test_a_new_peer_needs_no_restart(self):
         with place(clients=1) as here:
@@ -195,7 +197,7 @@ class Served(Case):
             (here.top / "A").write_bytes(b"a")
             client = written(here.top / "new", f"401 {at(here.port)} lispm", f"405 {at(new)} self")
             written(here.served, *here.served.read_text().splitlines(), f"405 {at(new)} new")
-            self.check("logged", [] if b"read again, 2 other hosts" in here.server.line_with(b"hosts table") else ["nothing is logged"])
+            self.check("logged", [] if b"read again, 2 other hosts\n" in here.server.line_with(b"hosts table") else ["nothing is logged"])
             self.check("put", here.run("put", "--hosts", client, *FOR_LONG, "A", "lispm:").problems(DONE, b"", b""))
             self.check("an old peer", here.call("get", "lispm:A", "copy").problems(DONE, b"", b""))
 
@@ -206,6 +208,56 @@ class Served(Case):
             line = here.server.line_with(b"hosts table")
             self.check("logged", [] if b"line 1: 'nonsense' is no UDP address" in line and b"the hosts stay" in line else [repr(line)])
             self.check("put", here.call("put", "A", "lispm:").problems(DONE, b"", b""))
+
+    def check_logged(self, here, name, *wanted):
+        """The next lines about the table, which all come of one text."""
+        lines = [here.server.line_with(b"hosts table").decode() for _ in wanted]
+        self.check(name, [] if lines == [f"chaosd: hosts table {here.served}: {it}\n" for it in wanted] else [repr(lines)])
+
+    def test_an_own_entry_that_changes_needs_a_restart(self):
+        with place(clients=1) as here:
+            (other,) = free_ports(1)
+            (here.top / "A").write_bytes(b"a")
+            own, client = here.served.read_text().splitlines()
+            changed, again = "the first entry self changed, which needs a restart", "read again, 1 other host"
+            for name, line, wanted in [
+                ("another Chaosnet address", f"407 {at(here.port)} self", [changed]),
+                ("another UDP address", f"401 {at(other)} self", [changed]),
+                ("no UDP address", "401 * self", [changed]),
+                ("no entry", "#", ["there is no entry self, which a restart needs"]),
+                ("the entry of the start", own, []),
+            ]:
+                written(here.served, line, client)
+                self.check_logged(here, name, again, *wanted)
+            written(here.served, own, client, f"405 {at(other)} new")
+            self.check_logged(here, "nothing more", "read again, 2 other hosts")
+            self.check("put", here.call("put", "A", "lispm:").problems(DONE, b"", b""))
+
+    def test_a_new_host_outside_the_bridge_needs_a_restart(self):
+        with place(clients=1, serves=False) as here:
+            bridge, new = free_ports(2)
+            lines = [*here.served.read_text().splitlines(), f"* {at(bridge)}"]
+            written(here.served, *lines)
+            here.server = ServingTable(here, "--chudp", "--bridge", "501")
+            try:
+                written(here.served, *lines, f"405 {at(new)} outside", f"1402 {at(bridge)} behind", f"501 {at(bridge)} bridge")
+                wanted = "host 405 outside the bridge is new, which needs a restart"
+                self.check_logged(here, "outside", "read again, 4 other hosts", wanted)
+                written(here.served, *lines)
+                self.check_logged(here, "gone", "read again, 1 other host")
+            finally:
+                here.server.end()
+
+    def test_a_table_that_a_start_would_refuse_is_left(self):
+        with place(clients=1, serves=False) as here:
+            (here.top / "A").write_bytes(b"a")
+            here.server = ServingTable(here, "--only-peers")
+            try:
+                written(here.served, *here.served.read_text().splitlines(), "404 * roaming")
+                self.check_logged(here, "a host with *", "a host with * can't be heard with --only-peers; the hosts stay")
+                self.check("put", here.call("put", "A", "lispm:").problems(DONE, b"", b""))
+            finally:
+                here.server.end()
 
     def test_a_host_is_followed_where_it_goes(self):
         with place(clients=2) as here:

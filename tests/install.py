@@ -118,7 +118,14 @@ class Install(Case):
         (self.room / "chaosd.service.d").mkdir()
         wishes = ["AmbientCapabilities=CAP_NET_BIND_SERVICE", "CapabilityBoundingSet=CAP_NET_BIND_SERVICE", "PrivateUsers=no", "StateDirectoryMode=0550"]
         self.check("the page names what is wished for", [wish for wish in wishes if wish.partition("=")[0] not in page])
-        (self.room / "chaosd.service.d/override.conf").write_text("\n".join([here(added), *wishes, ""]))
-        self.check("it verifies the unit with that", verified(unit))
-        *_, command = re.findall(r"^ExecStart=(.+)$", here(added), re.M)
-        self.check("and the program understands its words", run(tried(command, self.room)).problems(DONE))
+        self.check("and how options are added", [] if "add `ExecStart=`, and below it the unit's own line with your options" in page else [page])
+        (own,) = re.findall(r"^ExecStart=(.+)$", unit.read_text(), re.M)
+        commands = [own, own.replace(" serve ", " serve --log all ")]
+        for command in commands:
+            (self.room / "chaosd.service.d/override.conf").write_text("\n".join([here(added), "ExecStart=", f"ExecStart={command}", *wishes, ""]))
+            self.check("it verifies the unit with that", verified(unit))
+            self.check("and the program understands its words", run(tried(command, self.room)).problems(DONE))
+
+    def test_journald_drops_none_of_its_lines(self):
+        """Each change of a file is a line, and journald drops lines of a unit that has a limit."""
+        self.check("the unit has no limit", [] if "\nLogRateLimitIntervalSec=0\n" in self.unit().read_text() else ["it has one"])

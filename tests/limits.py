@@ -4,6 +4,7 @@ import os
 import pathlib
 import re
 import select
+import signal
 import socket
 import subprocess
 import time
@@ -12,6 +13,7 @@ from tests.flood import Packet
 from tests.hosts import ServingTable, place, written
 from tests.packets import DATA, OPN, RFC, SNS, STS, datagram
 from tests.pages import text_of
+from tests.sealed import calm
 from tests.sealing import called, sealed_serving
 from tests.support import (
     CLIENT, DONE, FAULT, FOR_LONG, LONG, PROGRAM, SERVER, Case, Relay, Serving, at, finished, folder, free_ports, mixed_content,
@@ -45,7 +47,7 @@ class Bundles(Case):
         with sealed_serving(options=["--carriage", "2", "--window", "64"]) as server, network_before(server, Measuring) as network, folder() as here:
             (here / "F").write_bytes(mixed_content(40_000))
             ended = called(server, network, "put", "F", options=["--carriage", "2", *FOR_LONG], cwd=here)
-            problems = ended.problems(DONE, b"", b"") + stored_problems(server.folder / "F", mixed_content(40_000))
+            problems = calm(ended).problems(DONE, b"", b"") + stored_problems(server.folder / "F", mixed_content(40_000))
             self.check("put", problems + ([] if 1_472 < network.longest <= 1_472 + 48 else [f"the longest datagram had {network.longest} bytes"]))
 
 
@@ -115,6 +117,20 @@ class Ports(Case):
             streams = {"stdin": subprocess.DEVNULL, "stdout": subprocess.PIPE, "stderr": subprocess.PIPE}
             ended = finished(subprocess.Popen([PROGRAM, "serve", "--turns", "1", "401", "127.0.0.1:900", here], **streams, **user), patience=LONG)
         self.check("port 900", ended.problems(FAULT, b"", [b"can't open 127.0.0.1:900: Permission denied"]))
+
+
+class Signals(Case):
+    """What ends a server."""
+
+    seconds = 2
+
+    def test_sighup_ends_it(self):
+        if signal.getsignal(signal.SIGHUP) == signal.SIG_IGN:
+            self.skipTest("whoever runs the tests ignores SIGHUP, and so does what they start")
+        self.check("the page has it", [] if "SIGHUP ends the server." in PAGE else ["it hasn't"])
+        with serving() as server:
+            server.process.send_signal(signal.SIGHUP)
+            self.check("it ends", [] if server.process.wait(LONG) == -signal.SIGHUP else [str(server.process.returncode)])
 
 
 class Times(Case):

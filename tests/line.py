@@ -39,12 +39,15 @@ LOCALS_FORM = "a name for standard input, given with --as"
 OTHER_FORM = "a Chaosnet address other than this host's own"
 RETRANSMIT_FORM = "a decimal number of milliseconds from 20 to 60000, without leading zeros"
 TIMEOUT_FORM = "a decimal number of seconds from 1 to 3600, without leading zeros"
-ONE_PATH = "takes one PATH alone, unless it ends with /"
+ONE_PATH = "names one file for several PATHs: the name of a folder ends with /, such as DIR/"
 PATTERN_FORM = "a path without * and ?. FILE has no listing: name each file"
 FOLLOWED_FORM = "a Chaosnet address in front of `=*`, such as 402=*: 1 to 6 octal digits, from 1 to 177777"
 HOST_FORM = "a host's name: 1 to 64 letters, digits, hyphens and dots, one of them a letter"
 HOST_PATH_FORM = "a host's name, a colon and a path, such as lispm:A.LISP"
 BARE_HOST_FORM = "a host's name and a colon at the end of the line, such as lispm:"
+KEPT_NAME_FORM = "nothing after the colon. put keeps a file's name, unless --as PATH gives another"
+NO_ADDRESS_FORM = "a host's name. To give addresses, begin the line with ADDRESS and UDP"
+STAYS_FORM = "a path without a host, because a file stays on its host"
 ONE_HOST_FORM = "one host in the whole line"
 TABLE = "can't be used in a line that begins with ADDRESS, because such a line has all addresses itself"
 NO_FOLDERS = "FILE has no folders: name the files, as in DIR/*"
@@ -166,8 +169,8 @@ HELP = {
         "--any-source         Accept datagrams from any UDP address, for a server\n",
     ],
     "ask nonsense -h": ["Usage: chaosd ask"],
-    "--version": ["chaosd 0.1.0\n", "\nchaosd.stamp, beside the program or in ../share/chaosd, says how it was built.\n"],
-    "-V": ["chaosd 0.1.0\n"],
+    "--version": ["chaosd 0.2.0\n", "\nchaosd.stamp, beside the program or in ../share/chaosd, says how it was built.\n"],
+    "-V": ["chaosd 0.2.0\n"],
 }
 
 WIDEST = 80
@@ -316,7 +319,7 @@ class Line(Case):
     def test_a_line_without_addresses_names_one_host(self):
         for text in BAD_HOSTS:
             is_bad(self, ["ask", "--", text], text, "HOST", HOST_FORM)
-            is_bad(self, ["put", "--", "A", f"{text}:B"], f"{text}:B", "HOST:", BARE_HOST_FORM)
+            is_bad(self, ["put", "--", "A", f"{text}:B"], f"{text}:B", "HOST:", KEPT_NAME_FORM if text == "a:" else BARE_HOST_FORM)
             if text != "a:":
                 is_bad(self, ["delete", "--", f"{text}:A"], f"{text}:A", "HOST:PATH", HOST_PATH_FORM)
         for words in [["put", "A", "B"], ["put", "A", "lispm"], ["put", "lispm:A", "A"]]:
@@ -330,6 +333,29 @@ class Line(Case):
         is_refused(self, ["rename", "lispm:A"], "the line needs NEW behind HOST:OLD")
         for words in [["ask", "lispm", "x"], ["serve", "files", "x"], ["rename", "lispm:A", "B", "x"]]:
             is_refused(self, words, "unexpected argument 'x' found")
+
+    def test_put_keeps_a_files_name_and_rename_its_host(self):
+        for text in ["lispm:B", "lispm:a/B", "lispm:."]:
+            is_bad(self, ["put", "A", text], text, "HOST:", KEPT_NAME_FORM)
+        for text in ["lispm:B", "its:B", "lispm:", "401=127.0.0.1:9001"]:
+            is_bad(self, ["rename", "lispm:A", text], text, "NEW", STAYS_FORM)
+            is_bad(self, ["rename", *ADDRESSES, "A", text], text, "NEW", STAYS_FORM)
+
+    def test_an_address_is_no_hosts_name(self):
+        for text in [ADDRESSES[2], f"{ADDRESSES[2]}:A", "402=lispm:", "127.0.0.1:9001"]:
+            is_bad(self, ["put", "A", "402", text], text, "HOST:", NO_ADDRESS_FORM)
+        for text in [ADDRESSES[2], f"{ADDRESSES[2]}:A", "401=lispm:A"]:
+            for words in [["get", text, "A"], ["get", text], ["delete", text], ["rename", text, "B"]]:
+                is_bad(self, words, text, "HOST:PATH", NO_ADDRESS_FORM)
+
+    def test_a_udp_address_is_behind_an_address(self):
+        for words in [["serve", "d", "402=127.0.0.1:2"], ["ask", "401"], ["get", ADDRESSES[2], "A"], ["put", ADDRESSES[2], "A"], ["delete", ADDRESSES[2], "A"]]:
+            is_refused(self, [words[0], "127.0.0.1:1", *words[1:]], "the line needs ADDRESS in front of UDP")
+
+    def test_a_host_alone_has_no_path(self):
+        for words in [["get", "lispm:"], ["get", "lispm:", "d/"], ["get", "lispm:A", "lispm:"], ["delete", "lispm:"]]:
+            is_refused(self, words, "the line needs PATH behind HOST:")
+        is_refused(self, ["rename", "lispm:", "B"], "the line needs OLD behind HOST:")
 
     def test_files_go_to_one_place(self):
         is_misfit(self, ["get", "-o", "x", "lispm:A", "y"], "--output x", "can't be used where the last word says where the files go")
@@ -404,7 +430,12 @@ class Line(Case):
         self.check("the first bad word is reported with its usage", ended.problems(BAD_LINE, b"", wanted.encode()))
         for words, piece in [
             (["nonsense"], b"unrecognized subcommand 'nonsense'"),
-            (["put"], b"  <WORD>...\n"),
+            (["serve"], b"error: the line needs FOLDER\n\nUsage: chaosd serve "),
+            (["ask", "-q"], b"error: the line needs HOST\n\nUsage: chaosd ask "),
+            (["get", "-t", "lispm:A"], b"error: the line needs HOST:PATH\n\nUsage: chaosd get "),
+            (["put"], b"error: the line needs LOCAL and HOST:\n\nUsage: chaosd put "),
+            (["delete", "--"], b"error: the line needs HOST:PATH\n\nUsage: chaosd delete "),
+            (["rename"], b"error: the line needs HOST:OLD and NEW\n\nUsage: chaosd rename "),
             (["serve", "401", "127.0.0.1:1"], b"error: the line needs FOLDER behind UDP\n"),
             (["ask", "401", "127.0.0.1:1"], b"error: the line needs TO behind UDP\n"),
             (["get", "402"], b"error: the line needs UDP behind ADDRESS\n"),

@@ -38,6 +38,10 @@ class Client(Peer):
     def number(datagram):
         return struct.unpack(">H", datagram[16:18])[0]
 
+    @staticmethod
+    def acknowledged(datagram):
+        return struct.unpack(">H", datagram[18:20])[0]
+
     def acknowledge(self):
         self.send(STS, self.there, self.me, 0, self.read, struct.pack("<HH", self.read, USUAL_WINDOW))
 
@@ -72,6 +76,7 @@ class Lines(Checking):
     """Lines that come back with the seconds in front."""
 
     seconds = 5
+    needs = ["example_lines"]
 
     def setUp(self):
         self.server = Server(2)
@@ -108,6 +113,18 @@ class Lines(Checking):
         lines = ann.gather(len(wanted)).split(b"\n")
         self.assertEqual([re.sub(rb"^\d+ ", b"", it) for it in lines], [*wanted, b""])
 
+    def test_each_reply_acknowledges_its_item_to_a_client_with_one_in_flight(self):
+        ann, _ = self.clients()
+        text = b""
+        for item in [b"one\n", b"two\n", b"\n", b"part of a line", b"x\n" * 244, b"end\n"]:
+            ann.write(DATA, item)
+            text += item
+            while re.sub(rb"(?m)^\d+ ", b"", ann.text) != text:
+                last = ann.take()
+            self.assertEqual((last[4], ann.acknowledged(last)), (DATA, ann.num), item)
+        ann.write(EOF)
+        self.assertEqual(ann.acknowledged(ann.until(EOF)), ann.num)
+
     def test_an_eof_is_answered_by_one_and_the_slot_serves_the_next(self):
         ann, _ = self.clients()
         ann.write(DATA, b"last")
@@ -126,6 +143,8 @@ class Lines(Checking):
 
 class Words(Checking):
     """The words of the program."""
+
+    needs = ["example_lines"]
 
     def test_bad_words_are_refused_with_how_they_go(self):
         for words in [[], ["401"], ["401", "x"], ["9", "9001"], ["401", "9001", "402"], ["401", "9001", "402=127.0.0.1"]]:

@@ -1,15 +1,20 @@
 """The rows of the table of a connection, and what else can be seen of an end from outside, played against `chaosd` and against the end
 in Lisp alike."""
 
+import os
 import random
+import re
 import socket
 import struct
 import subprocess
+import sys
 import time
+import unittest
 
+from tests import lisp
 from tests.packets import ANS, CLS, DATA, EOF, FWD, LOS, LSN, NO_NAME, OPN, RFC, SNS, STS, UNC, datagram
-from tests.second import FIRST, SECOND, Peer, begun, finished, needs_lisp, packets_of, ran, serving
-from tests.support import CLIENT, DONE, REFUSED, SERVER, USUAL_WINDOW, Case, at, folder, free_ports, stored_problems
+from tests.second import FIRST, LISP, SBCL, SECOND, Peer, begun, finished, needs_lisp, packets_of, ran, serving
+from tests.support import CLIENT, DONE, REFUSED, ROOT, SERVER, USUAL_WINDOW, Case, at, folder, free_ports, stored_problems
 
 NO_SERVER, NO_CONNECTION = b"No server for this contact name.", b"No such connection."
 FULL = b"Connection table full."
@@ -248,6 +253,28 @@ class EndOfLisp(Ends, Case):
     which = SECOND
 
 
+class AnotherProgram(Case):
+    """Another program in the place of the one in Lisp. Here that is the one in Lisp, by its path from the top."""
+
+    seconds = 5
+
+    @unittest.skipUnless(SBCL, "sbcl isn't there: `apt-get install sbcl` gives it")
+    def test_it_is_run_from_every_folder_and_named(self):
+        words, name = f"sbcl --script {(LISP / 'chaosd.lisp').relative_to(ROOT)}", "tests.lisp_rows.EndOfLisp.test_the_rows_of_an_end_that_asked"
+        line = [sys.executable, ROOT / "tools/test-program", "--here", name]
+        ran = subprocess.run(line, cwd=ROOT, env={**os.environ, "SECOND_PROGRAM": words}, capture_output=True, text=True, timeout=SOON)
+        wanted = f"ok: {words}: an end that asked, row by row\n1 0\n"
+        self.check("a program by its path from the top is run in another folder", [] if ran.stdout == wanted else [ran.stdout + ran.stderr])
+
+    def test_the_classes_that_the_protocol_names_are_there(self):
+        """Each takes a program in the place of the one in Lisp."""
+        section = (ROOT / "docs/PROTOCOL.md").read_text().partition("## Check your implementation")[2].partition("\n## ")[0]
+        named = re.findall(r"`(\w+)`", "".join(re.findall(r"^\| (`.*?) \|", section, re.M)))
+        there = {**vars(lisp), **globals()}
+        takes = [name for name in named if SECOND in (getattr(there.get(name), "which", None), getattr(there.get(name), "server", None))]
+        self.check("each class of the page takes another program", [it for it in named if it not in [*takes, "Alike"]] if len(named) > 6 else [str(named)])
+
+
 class Silence:
     """A peer that falls silent, and the end that waits for it."""
 
@@ -312,7 +339,7 @@ class Alike(Case):
         codes = {reply.split(b" ERROR ")[1][:3] for reply in first[0] if b" ERROR " in reply}
         wanted = {b"SYN", b"UKC", b"ILP", b"HIU", b"NOH", b"WRK", b"NMH", b"FNF", b"FAE"}
         problems += [f"no {wanted - codes} among them"] if wanted - codes else []
-        self.check(f"{len(lines)} odd commands draw the same replies from chaosd and from Lisp", problems)
+        self.check(f"{len(lines)} odd commands draw the same replies from chaosd and from {SECOND}", problems)
         self.check("and leave the same folder", [] if first[1] == other[1] else [f"{sorted(first[1])} and {sorted(other[1])}"])
 
     def test_random_datagrams_leave_the_lisp_server_serving(self):
@@ -327,4 +354,4 @@ class Alike(Case):
                     time.sleep(0.01)
             peer.close()
             problems = ran(FIRST, ["get", *host.words(), "A"], cwd=here).problems(DONE, b"", b"") + stored_problems(here / "A", b"a")
-            self.check("10,000 random datagrams leave the Lisp server serving", problems + host.problems())
+            self.check(f"10,000 random datagrams leave the server in {SECOND} serving", problems + host.problems())

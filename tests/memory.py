@@ -136,6 +136,7 @@ class Tests(Checking):
     """Tests of world_tests, which go on after a refusal."""
 
     seconds = 15
+    needs = ["--test", "world_tests"]
 
     def test_a_call_that_finds_no_memory_changes_nothing(self):
         program = checked("world_tests", "--test")

@@ -18,7 +18,7 @@ PIPES = {"stdin": subprocess.PIPE, "stdout": subprocess.PIPE, "stderr": subproce
 
 def unopened(server, client):
     """What is wanted of a client that no connection was opened for."""
-    question = b" ms: does a server run at %s, and does it have %s as a PEER? A server that has a key for this host answers under seal alone\n"
+    question = b" ms: does a server run at %s, and does its hosts table (or a PEER) have host %s? A server that has a key for this host answers under seal alone\n"
     return [b"no connection opened in ", question % (server.encode(), client.encode())]
 
 
@@ -75,7 +75,7 @@ class Unknown(Case):
     def test_each_mistake_says_what_to_look_at(self):
         """Another Chaosnet address of the server, no such peer, and a peer at another port: all wait at once."""
         first, second, third = free_ports(3)
-        with folder() as here, serving(peers=3) as server, contextlib.ExitStack() as stack:
+        with folder() as here, serving(peers=3) as server:
             (here / "A").write_bytes(b"(A)")
             to = at(server.port)
             waiting = {
@@ -89,9 +89,17 @@ class Unknown(Case):
             asked = finished(asking, FILE_SCRIPT, LONG)
             stored = list(server.folder.iterdir())
         for name, (own, me, _) in waiting.items():
-            problems = ends[name].problems(REFUSED, b"", unopened(to, f"{me}={at(own)}"))
+            problems = ends[name].problems(REFUSED, b"", unopened(to, f"{me} at {at(own)}"))
             self.check(name, problems + ([] if not stored else [f"there are {stored}"]))
-        self.check("ask", asked.problems(REFUSED, NO_REPLY, unopened(to, f"411={at(third)}")))
+        self.check("ask", asked.problems(REFUSED, NO_REPLY, unopened(to, f"411 at {at(third)}")))
+
+    def test_a_client_at_any_of_its_udp_addresses_names_none(self):
+        with folder() as here, socket.socket(socket.AF_INET, socket.SOCK_DGRAM) as silent:
+            silent.bind(("127.0.0.1", 0))
+            to = at(silent.getsockname()[1])
+            (here / "hosts").write_text(f"401 {to} lispm\n412 * self\n")
+            ended = run(["get", "--hosts", here / "hosts", "--timeout", "1", "--output", "/dev/null", "lispm:A"])
+        self.check("a client by a table", ended.problems(REFUSED, b"", unopened(to, "412")))
 
     def test_the_own_address_as_the_servers_is_a_bad_line(self):
         own, other = free_ports(2)

@@ -96,7 +96,7 @@ class Printed(Case):
             self.check("skipped", ended.problems(REFUSED, b"", SKIPPED % PRINTED))
             ended = copied(server, "put", WILD, options=["--as", "A", "--verbose", "--text"], cwd=here)
             told = b"chaosd: " + PRINTED + b" has lines that end in CR LF; --text keeps the CRs\n"
-            self.check("--verbose and --text", ended.problems(DONE, b"", [told, b"\n" + PRINTED + b" 3 bytes, ", b", SHA-256 "]))
+            self.check("--verbose and --text", ended.problems(DONE, b"", [told, b"\n" + PRINTED + b" as A 3 bytes, ", b", SHA-256 "]))
             (here / "sub").mkdir()
             (here / "sub" / WILD).write_bytes(b"b")
             ended = copied(server, "put", WILD, f"sub/{WILD}", options=["--rename"], cwd=here)

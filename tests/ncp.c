@@ -49,6 +49,7 @@ static void handles(void) {
     uint64_t due;
     CHECK(chaos_ncp_tick(&ann, now), CHAOS_NCP_NO_NODE);
     CHECK(chaos_ncp_destroy(&ann), CHAOS_NCP_NO_NODE);
+    CHECK(chaos_ncp_pass(&ann, 1), CHAOS_NCP_NO_NODE);
     CHECK(chaos_ncp_create(&ann, 0402, 2, 0), CHAOS_NCP_BAD_WINDOW);
     CHECK(chaos_ncp_create(&ann, 0, 2, 13), CHAOS_NCP_BAD_ADDRESS);
     CHECK(chaos_ncp_create(&ann, 0402, 256, 13), CHAOS_NCP_BAD_COUNT);
@@ -66,6 +67,33 @@ static void contacts(void) {
     CHECK(chaos_ncp_listen(&bob, BYTES("TALK TO")), CHAOS_NCP_BAD_CONTACT);
     CHECK(chaos_ncp_connect(&ann, 0, BYTES("TALK"), 1, now), CHAOS_NCP_BAD_ADDRESS);
     CHECK(chaos_ncp_state(&ann, 1), CHAOS_NCP_NO_CONNECTION);
+}
+
+/* The number of the next connection that ann asks for. */
+static int32_t asked(void) { return chaos_ncp_connect(&ann, 0401, BYTES("TALK"), 1, now); }
+
+/* A node that isn't in use passes over numbers of each slot, of which nothing goes out. */
+static void passing(void) {
+    CHECK(chaos_ncp_pass(&ann, 0), 0);
+    CHECK(chaos_ncp_pass(&ann, 3), 0);
+    CHECK(lose(&ann), 0);
+    CHECK(asked(), 3 * 256 + 1);
+    CHECK(asked(), 3 * 256 + 2);
+    CHECK(lose(&ann), 2);
+    CHECK(chaos_ncp_pass(&ann, 1), CHAOS_NCP_IN_USE);
+    CHECK(chaos_ncp_close(&ann, 3 * 256 + 1, BYTES("")), 0);
+    lose(&ann);
+    CHECK(chaos_ncp_pass(&ann, 1), CHAOS_NCP_IN_USE);
+    CHECK(chaos_ncp_close(&ann, 3 * 256 + 2, BYTES("")), 0);
+    lose(&ann);
+    CHECK(asked(), 4 * 256 + 1);
+    CHECK(chaos_ncp_close(&ann, 4 * 256 + 1, BYTES("")), 0);
+    CHECK(chaos_ncp_pass(&ann, 1), CHAOS_NCP_IN_USE);
+    CHECK(lose(&ann) > 0, 1);
+    CHECK(chaos_ncp_pass(&ann, 255), 0);
+    CHECK(asked(), 4 * 256 + 1);
+    CHECK(chaos_ncp_close(&ann, 4 * 256 + 1, BYTES("")), 0);
+    lose(&ann);
 }
 
 /* A request that is retransmitted, and answered by one ANS. */
@@ -172,6 +200,7 @@ int main(void) {
     memset(&bob, 0, sizeof bob);
     handles();
     contacts();
+    passing();
     one_answer();
     refusal();
     dialogue();

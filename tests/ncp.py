@@ -1,4 +1,5 @@
-"""Tests the library for C, crates/chaos_ncp: each of its calls (tests/ncp.c), and the example that gets a file of `chaosd serve` with it."""
+"""Tests the library for C, crates/chaos_ncp: each of its calls (tests/ncp.c), and the example that gets a file of `chaosd serve` with it.
+The header examples/c/chudp.h needs no library: tests/chudp.c."""
 
 import pathlib
 import random
@@ -9,6 +10,7 @@ import sys
 import tempfile
 import unittest
 
+from tests.chudp_reference import Fault, decode, encode, octets_of, random_datagram, random_hops, random_words
 from tests.support import BAD_LINE, CLIENT, DONE, FAULT, REFUSED, ROOT, Case, Checking, Lossy, at, finished, free_ports, network_before, serving
 
 sys.path.insert(0, str(ROOT / "tools"))
@@ -51,6 +53,15 @@ def exports():
         yield name, [each for it in types for each in IN_C[it.strip()]]
 
 
+def is_framed(datagram):
+    """Whether head, length and sum of a datagram are those of CHUDP. The library refuses what is wrong with its packet."""
+    try:
+        decode(datagram)
+    except Fault as fault:
+        return str(fault).startswith(("6 ", "7 "))
+    return True
+
+
 class Header(Checking):
     """include/chaos_ncp.h, which nothing else holds against the library."""
 
@@ -68,6 +79,38 @@ class Header(Checking):
         wanted = {in_capitals(name): int(number) for name, number in re.findall(r"(?:Fault|State)::(\w+) => (-?\d+),", text)}
         # no connection that has a number is inactive
         self.assertEqual({**seen, "INACTIVE": 0}, wanted)
+
+
+@unittest.skipUnless(shutil.which("cc"), "cc isn't there, which examples/c/chudp.h needs")
+class Chudp(Checking):
+    """examples/c/chudp.h, beside the reader and writer of CHUDP in Python."""
+
+    @classmethod
+    def setUpClass(cls):
+        made = tempfile.TemporaryDirectory(prefix="chudp-")
+        cls.addClassCleanup(made.cleanup)
+        cls.program, cls.dice = pathlib.Path(made.name) / "chudp", random.Random(42042)
+        subprocess.run(["cc", *WARNINGS, "-I", ROOT / "examples/c", ROOT / "tests/chudp.c", "-o", cls.program], check=True)
+
+    def turned(self, how, datagrams):
+        """What the header makes of each datagram."""
+        given = "".join(f"{it.hex()}\n" for it in datagrams)
+        ran = subprocess.run([self.program, how], input=given, capture_output=True, text=True)
+        self.check(f"{how} reads each line", [ran.stderr] if ran.returncode or ran.stderr else [])
+        return [bytes.fromhex(it) for it in ran.stdout.splitlines()]
+
+    def test_each_datagram_of_version_1_becomes_one_of_chudp_and_comes_back(self):
+        packets = [(random_words(self.dice), *random_hops(self.dice)) for _ in range(2_000)]
+        own = [b"CH\x01\x00" + octets_of(words) for words, _, _ in packets]
+        framed = self.turned("wrap", [it + octets_of(hops) for it, (_, *hops) in zip(own, packets)])
+        self.check("wrapped", [] if framed == [encode(*it) for it in packets] else ["another datagram"])
+        self.check("and unwrapped", [] if self.turned("unwrap", framed) == own else ["another datagram"])
+
+    def test_what_is_no_chudp_is_refused_before_its_packet_is_looked_at(self):
+        datagrams = [random_datagram(self.dice) for _ in range(4_000)]
+        wanted = [b"CH\x01\x00" + it[4:-6] if is_framed(it) else b"" for it in datagrams]
+        self.check("each", [] if self.turned("unwrap", datagrams) == wanted else ["another datagram"])
+        self.check("some are refused", [] if 500 < wanted.count(b"") < 3_500 else [str(wanted.count(b""))])
 
 
 class Library(Case):

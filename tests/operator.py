@@ -317,6 +317,23 @@ class Beginning(Case):
         first = "host 401 serves HERE at OWN to 403=127.0.0.1:9 402=OTHER"
         self.check_first("two peers", ["403=127.0.0.1:9", "402=OTHER"], first)
 
+    def test_hosts_that_are_followed_are_named(self):
+        self.check_first("alone", ["404=*"], "host 401 serves HERE at OWN to 404=*")
+        first = "host 401 serves HERE at OWN to 402=OTHER 404=* 405=* *=127.0.0.1:9"
+        self.check_first("beside a peer and a bridge", ["404=*", "402=OTHER", "*=127.0.0.1:9", "405=*"], first)
+
+    def test_hosts_with_a_key_are_named(self):
+        with folder() as here:
+            (here / "key").write_text("0" * 64 + "\n")
+            (here / "key").chmod(0o600)
+            keyed = ["--key", str(here / "key")]
+            first = "host 401 serves HERE at OWN to 402=OTHER, with a key for 402, and hears nobody in clear"
+            self.check_first("one", [*keyed, "402=OTHER"], first)
+            first = "host 401 serves HERE at OWN to 402=OTHER 404=*, with keys for 402 404, and hears nobody in clear"
+            self.check_first("two", [*keyed, "402=OTHER", "404=*"], first)
+            first = "host 401 serves HERE at OWN to 402=OTHER *=127.0.0.1:9, with a key for 402"
+            self.check_first("beside a bridge", [*keyed, "402=OTHER", "*=127.0.0.1:9"], first)
+
     def test_what_can_answer_nobody_is_told(self):
         self.check_first("no peer", [], "host 401 serves HERE at OWN", "no PEER is given, so nobody is answered")
         itself = "PEER 401 has this host's own Chaosnet address, so what is sent there comes back here"

@@ -81,7 +81,7 @@ def options_of_the_program():
 
 
 # Options of other programs that the pages name.
-OTHERS = {"--accept", "--allow-holes", "--check", "--home-dir", "--now", "--script", "--shell", "--start", "--system", "--self-test"}
+OTHERS = {"--accept", "--allow-downgrades", "--allow-holes", "--check", "--home-dir", "--now", "--script", "--shell", "--start", "--system", "--self-test", "--user-group", "--verify"}
 
 
 class Options(Case):

@@ -13,6 +13,7 @@ from tests.copying import copied, left_problems
 from tests.packets import CLS, DATA, LOS, OPN, RFC, SNS, Peer, datagram, turned
 from tests.road import road_before
 from tests.seal_reference import HEAD_BYTES, SEAL_BYTES, TAG_BYTES, head_of, is_sealed, payload_of, sealed
+from tests.sealed import calm
 from tests.sealing import called, sealed_serving
 from tests.support import (
     CLIENT, DONE, FOR_LONG, PATIENCE, REFUSED, SERVER,
@@ -65,7 +66,7 @@ def forgeries(one, packet):
 
 def unharmed_problems(ended):
     """What is wrong with a call that does all its work under attack: a client may report that it refused a datagram."""
-    other = [line for line in ended.err.splitlines() if not line.startswith(b"chaosd: refused a datagram of ")]
+    other = [line for line in calm(ended).err.splitlines() if not line.startswith(b"chaosd: refused a datagram of ")]
     return ended.problems(DONE, b"") + [f"it reports {line}" for line in other]
 
 
@@ -95,6 +96,19 @@ def turning(times):
     return make
 
 
+class Marring(Relay):
+    """Turns an A of a file that the server gives into @, by one bit, once."""
+
+    is_done = False
+
+    def passed(self, one, port):
+        found = one.find(b"AAAA") if port != self.server and not self.is_done else -1
+        if found < 0:
+            return [(one, port)]
+        self.is_done = True
+        return [(one[:found] + b"@" + one[found + 1 :], port)]
+
+
 class Bits(Case):
     """Bits that flip on the way."""
 
@@ -115,9 +129,17 @@ class Bits(Case):
             ("under seal the file is deleted once the command comes whole", True, 3, FOR_LONG, DONE, ["FILE2", "FILE3"]),
             ("under seal none is deleted where it never does", True, 1_000_000, ["--timeout", "3"], REFUSED, ["FILE1", "FILE2", "FILE3"]),
         ]
-        for name, is_sealed, times, options, status, wanted in rows:
-            ended, left = self.left_after(is_sealed, times, options)
+        for name, has_keys, times, options, status, wanted in rows:
+            ended, left = self.left_after(has_keys, times, options)
             self.check(name, ended.problems(status) + ([] if left == wanted else [f"{left} are left"]))
+
+    def test_one_flipped_bit_in_clear_gives_a_wrong_file(self):
+        with attacked(Marring, False) as (server, network), folder() as here:
+            (server.folder / "F").write_bytes(b"A" * 64)
+            ended = called(server, network, "get", "F", options=FOR_LONG, cwd=here)
+            got = (here / "F").read_bytes()
+        wrong = [] if got.count(b"@") == 1 and got.replace(b"@", b"A") == b"A" * 64 else [repr(got)]
+        self.check("in clear a get has one wrong byte, with status 0", ended.problems(DONE) + wrong)
 
     def test_files_come_whole_where_any_bit_flips(self):
         """One bit of one datagram in 25."""
@@ -251,8 +273,8 @@ class Requests(Case):
     seconds = 20
 
     def test_forged_requests_draw_nothing(self):
-        for is_sealed in (False, True):
-            with sealed_serving(is_sealed) as server, victim_of(server) as (attacker, waiting):
+        for has_keys in (False, True):
+            with sealed_serving(has_keys) as server, victim_of(server) as (attacker, waiting):
                 problems = []
                 for index in range(1, 21):
                     for one in requests(index):
@@ -260,7 +282,7 @@ class Requests(Case):
                     problems += waiting.wait()
                 came = attacker.received()
             opened = server.logged(b"402 opens connection")
-            if is_sealed:
+            if has_keys:
                 name = "under seal forged requests draw no byte, and open no connection"
                 problems += [f"{len(came)} datagrams came"] * bool(came) + [f"{line}" for line in opened]
             else:
@@ -273,15 +295,15 @@ class Requests(Case):
         me, host, tried = (STRANGER, 1), (SERVER, 0), [(SERVER, index) for index in range(1, 65_536, 256)]
         blind = [[datagram(RFC, host, me, 5, 0, b"FILE")]]
         blind += [[datagram(DATA, new, me, 6, 0, b"T1  LOGIN M"), datagram(DATA, new, me, 7, 0, b"T2  DELETE\x8dF")] for new in tried]
-        for is_sealed in (False, True):
-            with sealed_serving(is_sealed, of_all=True) as server, contextlib.closing(Elsewhere(server)) as attacker, folder() as here:
+        for has_keys in (False, True):
+            with sealed_serving(has_keys, of_all=True) as server, contextlib.closing(Elsewhere(server)) as attacker, folder() as here:
                 (server.folder / "F").write_bytes(b"(A)")
                 for each in blind:
                     for one in each:
                         attacker.send(one)
                     time.sleep(0.01)
                 ended = called(server, server, "get", "F", cwd=here)
-            if is_sealed:
+            if has_keys:
                 self.check("where each host has a key, a host of no entry deletes nothing", unharmed_problems(ended))
             else:
                 self.check("in clear it deletes a file", ended.problems(REFUSED, b"", b"chaosd: F: FNF No such file.\n"))

@@ -16,6 +16,7 @@ SEALED = b"CH\x03\x00"
 # A status of host 401 for host 402, without a seal.
 STATUS = bytes.fromhex("43480100 07000004 01020101 01010203 00000010 0012000d")
 UNHEARD = b"chaosd: nothing sealed came from host 401 yet: does it run, and does it have this key for 402?\n"
+QUESTION = [b"no connection opened in ", b", and does its hosts table (or a PEER) have host 402 at "]
 # A message about keys comes within so many seconds.
 SECONDS = 20
 
@@ -108,6 +109,8 @@ class Sealed(Case):
             served = here.served.read_text().replace("client0", "client0 key=first.key")
             written(here.served, *served.splitlines())
             here.server = ServingTable(here)
+            wanted = f" to 402={at(here.ports[0])} 403={at(here.ports[1])}, with a key for 402\n".encode()
+            self.check("the key is logged", [] if here.server.said.endswith(wanted) else [repr(here.server.said)])
             (here.top / "A").write_bytes(b"(a)")
             first = ["402", at(here.ports[0]), f"401={at(here.port)}"]
             second = ["403", at(here.ports[1]), f"401={at(here.port)}"]
@@ -178,7 +181,7 @@ class Tables(Case):
                 own = f"key={here.top}/own.key "
                 written(here.served, *good.replace(own, f"{own}more ").splitlines())
                 line = here.server.line_with(b"hosts table")
-                self.check("a name is taken in", [] if b"read again, 1 other hosts" in line else [repr(line)])
+                self.check("a name is taken in", [] if b"read again, 1 other host\n" in line else [repr(line)])
             finally:
                 here.server.end()
 
@@ -285,14 +288,14 @@ class Differences(Case):
     def test_what_a_client_with_a_key_reports_at_its_end(self):
         with sealing() as server:
             ended = run(calling(server, "get", "A", options=["--key", str(server.here / "key"), "--timeout", "3"]))
-            wanted = [UNHEARD, b"no connection opened in ", b" as a PEER, with the same key?\n"]
+            wanted = [UNHEARD, *QUESTION, b", with the same key?\n"]
             self.check("client", ended.problems(ended.status, b"", wanted))
 
     def test_a_key_at_the_server_alone(self):
         with sealing(["--key", "key"]) as server:
             ended = run(calling(server, "get", "A", options=["--timeout", "3"]))
-            hint = b" as a PEER? A server that has a key for this host answers under seal alone\n"
-            self.check("client", ended.problems(ended.status, b"", [b"no connection opened in ", hint]))
+            hint = b"? A server that has a key for this host answers under seal alone\n"
+            self.check("client", ended.problems(ended.status, b"", [*QUESTION, hint]))
             line = server.line_with(b"refused")
             wanted = b"a packet without a seal\n"
             self.check("server", [] if line.endswith(wanted) else [repr(line)])

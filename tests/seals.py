@@ -208,6 +208,7 @@ class Library(Checking):
     """What chaos_seal seals and opens."""
 
     seconds = 60
+    needs = ["random_seals"]
 
     def test_of_flipped_bits_the_library_hands_up_nothing(self):
         seeds = [*SEEDS, time.time_ns() // 1_000]

@@ -21,8 +21,9 @@ from tests.support import CLIENT, DONE, PROGRAM, ROOT, SERVER, USUAL_WINDOW, at,
 
 LISP = ROOT / "examples/lisp"
 SBCL = shutil.which("sbcl")
-# The words that start another implementation in place of the one in Lisp: docs/PROTOCOL.md, "Check your implementation".
-OTHER = shlex.split(os.environ.get("SECOND_PROGRAM", ""))
+# The words that start another implementation in place of the one in Lisp: docs/PROTOCOL.md, "Check your implementation". Tests run it in
+# folders of their own, so a word that is a file's path becomes the whole path.
+OTHER = [os.path.abspath(it) if os.path.exists(it) else it for it in shlex.split(os.environ.get("SECOND_PROGRAM", ""))]
 # Seconds: a Lisp takes one to start, and more on a machine that does much else.
 LONG = 300
 
@@ -33,7 +34,7 @@ TIMESTAMPS = 35
 SHOWN = 200
 
 # The third is a Lisp machine as far as one can be had: its client, over a stand-in for its Chaosnet.
-FIRST, SECOND, MACHINE = "chaosd", "Lisp", "a Lisp machine"
+FIRST, SECOND, MACHINE = "chaosd", os.environ.get("SECOND_PROGRAM") or "Lisp", "a Lisp machine"
 
 needs_lisp = unittest.skipUnless(SBCL or OTHER, "sbcl isn't there: `apt-get install sbcl` gives it")
 

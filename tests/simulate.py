@@ -68,6 +68,7 @@ class Simulations(Case):
     """Runs of the simulator."""
 
     seconds = SECONDS + 20
+    needs = ["--fast", "chaosd"]
 
     @classmethod
     def setUpClass(cls):
@@ -93,6 +94,33 @@ class Simulations(Case):
 
     def test_a_word_that_the_simulator_does_not_know_is_a_mistake_status_2(self):
         self.assertEqual(2, simulate("--nonsense")[0])
+
+
+class Words(Checking):
+    """The words of tools/simulate."""
+
+    seconds = 20
+
+    def setUp(self):
+        require_compiler()
+
+    def ended(self, *words):
+        """The status of the tool without a kit, so that nothing can be compiled but the simulator, and what it printed."""
+        how = {"stdin": subprocess.DEVNULL, "stdout": subprocess.PIPE, "stderr": subprocess.STDOUT, "text": True}
+        ran = subprocess.run([ROOT / "tools/simulate", *words], env={**os.environ, "RT": "false"}, timeout=LONG, **how)
+        return ran.returncode, ran.stdout
+
+    def test_each_wrong_word_is_reported_before_a_program_is_compiled(self):
+        for words, wanted in [(["--nonsense", "1"], "--nonsense is no option"), (["--seed"], "--seed needs a value"), (["one"], "one is one word too many")]:
+            status, said = self.ended(*words)
+            self.check(" ".join(words), [] if status == 2 and said.startswith(f"simulator: {wanted}\n") else [f"status {status}: {said}"])
+
+    def test_the_help_and_the_page_have_the_same_words(self):
+        status, said = self.ended("--help")
+        self.assertEqual(0, status, said)
+        found = re.compile(r"(?<![\w-])--[a-z][a-z-]*")
+        table = (ROOT / "docs/SIMULATOR.md").read_text().partition("| Words | Do |")[2].partition("\n\n")[0]
+        self.assertEqual(set(found.findall(said.partition("simulator PROGRAM")[2])), set(found.findall(table)))
 
 
 class Parts(Checking):

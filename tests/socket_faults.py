@@ -3,16 +3,19 @@
 import contextlib
 import errno
 import os
+import re
+import socket
 import unittest.mock
 
 from tests.copying import copied
 from tests.support import (
-    DONE, FAULT, LONG, Case, Serving, finished, folder, mixed_content, preloaded, serving, stored_problems,
+    DONE, FAULT, LONG, REFUSED, Case, Serving, at, finished, folder, free_ports, mixed_content, preloaded, run, serving, stored_problems,
 )  # fmt: skip
 
 LOST_SENDING = ["ENOBUFS", "EMSGSIZE", "EIO"]
 LOST_RECEIVING = ["ENOMEM", "ENOBUFS", "ENETDOWN", "ENETUNREACH", "EHOSTUNREACH", "EIO"]
 OVER = ["EBADF", "ENOTSOCK"]
+LOGIN = b"T1  LOGIN LISPM\n"
 # The fifth call and so many behind it fail.
 FIRST, TIMES = 5, 8
 
@@ -76,6 +79,38 @@ class Lost(Failing):
 
     def test_a_datagram_that_can_not_be_received_is_lost(self):
         self.check_each("recvfrom", LOST_RECEIVING)
+
+
+class Unsent(Failing):
+    """A client that could not send, and for which no connection was opened."""
+
+    seconds = 12
+
+    def check_end(self, name, times, wanted):
+        """Nobody answers at the server's port."""
+        with socket.socket(socket.AF_INET, socket.SOCK_DGRAM) as silent:
+            silent.bind(("127.0.0.1", 0))
+            port = silent.getsockname()[1]
+            wanted = wanted.replace(b"PLACE", at(port).encode())
+            own, server = ["402", at(free_ports(1)[0])], f"401={at(port)}"
+            for words, lead in [(["get", "--output", "/dev/null", *own, server, "A"], b"A: "), (["ask", *own, "401", server], b"")]:
+                with failing(self.library, "sendto", name, times, 1):
+                    ended = run([words[0], "--timeout", "2", *words[1:]], LOGIN)
+                pattern = b"chaosd: " + lead + rb"no connection opened in \d+ ms: " + wanted
+                problems = ended.problems(REFUSED) + ([] if re.fullmatch(pattern, ended.err) else [f"{ended.err!r}"])
+                self.check(f"sendto fails {times} times by {name} at {words[0]}", problems)
+
+    def test_the_fault_of_the_last_send_is_reported(self):
+        for name in ["EINVAL", "ENETUNREACH", "EPERM"]:
+            number = getattr(errno, name)
+            reason = re.escape(f"{os.strerror(number)} (os error {number})".encode())
+            self.check_end(name, 1_000_000, rb"sending to PLACE failed: " + reason + rb"\n")
+
+    def test_a_fault_before_a_send_that_went_well_is_not(self):
+        self.check_end("ENETUNREACH", 3, rb"does a server run at PLACE, and .*\n")
+
+    def test_a_send_that_would_have_to_wait_is_no_fault(self):
+        self.check_end("EAGAIN", 1_000_000, rb"does a server run at PLACE, and .*\n")
 
 
 class Over(Failing):

@@ -48,9 +48,10 @@ FOR_LONG = ["--timeout", "1000"]
 
 
 class Checking(unittest.TestCase):
-    """Tests of several checks. Classes run side by side, those first that say that they take the most seconds."""
+    """Tests of several checks. Classes run side by side, those first that say that they take the most seconds. A class names the program
+    that it needs beside `chaosd`, by words of tools/checked."""
 
-    seconds = 1
+    seconds, needs = 1, []
 
     def check(self, name, problems):
         """One check of several in a test, which holds where there are no problems. The others follow in either case."""

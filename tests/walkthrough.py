@@ -15,7 +15,7 @@ from tests.bridge import bridging
 from tests.chudp import VECTORS
 from tests.dist import timeless
 from tests.pages import FENCE, text_of
-from tests.support import BAD_LINE, DONE, LONG, PATIENCE, PROGRAM, REFUSED, ROOT, Case, at, finished, folder, free_ports, line_of, stored_problems
+from tests.support import BAD_LINE, DONE, FAULT, LONG, PATIENCE, PROGRAM, REFUSED, ROOT, Case, at, finished, folder, free_ports, line_of, run, stored_problems
 
 SCRIPT = b"T1  LOGIN LISPM\nT2 H1 OPEN WRITE^A.LISP\nT3 H1 WRITE^(A)\nT4 H1 CLOSE\n"
 SOURCE = b"(DEFUN HELLO ())\n"
@@ -113,6 +113,27 @@ class Typed(Case):
         self.check(f"$ {line}", [f"no {it!r} in {said!r}" for it in [" serves ", *map(here.here_of, pieces)] if it not in said])
 
 
+class FrontDoor(Typed):
+    """README.md: what its two shells don't try."""
+
+    def setUp(self):
+        self.picture, *blocks = FENCE.findall(text_of("README.md"))
+        (self.tables,) = [it for it in blocks if it.startswith("# on the server")]
+
+    def test_the_tables_of_two_machines_copy_a_file(self):
+        with shell() as here:
+            for name, table in zip(["server", "client"], self.tables.split("\n\n"), strict=True):
+                (here.here / name).write_text(here.here_of(table))
+            (here.here / "files").mkdir()
+            self.check_serves(here, "chaosd serve --hosts server files", "host 401", "402=192.0.2.7:9002")
+            self.check_line(here, "chaosd put --hosts client examples/hello.file lispm:")
+            self.check("the file is there", stored_problems(here.here / "files/hello.file", (ROOT / "examples/hello.file").read_bytes()))
+
+    def test_the_machines_of_the_tables_are_those_of_the_picture(self):
+        places, wanted = (set(re.findall(r"[\d.]+:\d+", it)) for it in (self.tables, self.picture))
+        self.check("their UDP addresses", [] if places == wanted else [f"{places} and not {wanted}"])
+
+
 class Laboratory(Typed):
     """docs/LABORATORY.md."""
 
@@ -122,6 +143,41 @@ class Laboratory(Typed):
             self.check("it has lines", [] if len(lines) == 4 else [str(lines)])
             for line, printed in lines:
                 self.check_line(here, line, printed)
+
+    def test_the_lines_of_its_script_stand_beside_what_they_print(self):
+        script = text_of("examples/lab/opening.lab").splitlines()
+        column = max(map(len, script)) + 4
+        rows = [(line[:column].strip(), line[column:]) for line in FENCE.findall(text_of("docs/LABORATORY.md"))[1].splitlines()]
+        self.check("the script is that of the example", [] if [it for it, _ in rows if it] == script else [str(rows)])
+        self.check("the output, too", [] if "".join(f"{it}\n" for _, it in rows) == text_of("examples/lab/opening.txt") else [str(rows)])
+        *starts, last = [n for n, (line, _) in enumerate(rows) if line] + [len(rows) - 1]
+        for line, end in zip(range(1, len(script) + 1), [*starts[1:], last]):
+            ended = run(["lab"], "".join(f"{it}\n" for it in script[:line]).encode())
+            printed, beside = ended.out.decode().splitlines()[:-1], [it for _, it in rows[:end]]
+            self.check(f"up to `{script[line - 1]}`", ended.problems(DONE, None, b"") + ([] if printed == beside else [f"{printed} and not {beside}"]))
+
+    def test_the_forms_of_its_table_are_those_that_the_program_names(self):
+        section = section_of("docs/LABORATORY.md", "## A script")
+        first = re.search(r"The first line is `(.*?)`", section)[1]
+        ended = run(["lab"], b"ends\n")
+        self.check(first, ended.problems(BAD_LINE, b"", [f"the first line must be `{first}`".encode()]))
+        forms = re.findall(r"^\| `(\w+.*?)` \|", section, re.M)
+        self.check("eight forms", [] if len(forms) == 8 else forms)
+        for form in forms:
+            ended = run(["lab"], f"{first.split()[0]} 1 1 1 1 1\n{form.split()[0]} !\n".encode())
+            named = re.search(r"expected `([^`(]*?)(?: \([^`]*)?`", ended.err.decode())
+            self.check(form, ended.problems(BAD_LINE) + ([] if named and named[1] == form else [ended.err.decode()]))
+
+
+class Glossary(Case):
+    """docs/GLOSSARY.md."""
+
+    def test_each_packet_that_the_laboratory_shows_is_explained(self):
+        shown = {name for it in (ROOT / "examples").glob("*lab/*.txt") for name in re.findall(r"^copy \d+ [ab] (\w+) ", it.read_text(), re.M)}
+        rows = re.findall(r"^\| ([A-Z]{3}) \|", text_of("docs/GLOSSARY.md"), re.M)
+        self.check("the laboratory's", sorted(shown - set(rows)) if len(shown) > 4 else sorted(shown))
+        names = re.findall(r"^   \d+(?: \.\. \d+)? +([A-Z]{3}) ", section_of("docs/PROTOCOL.md", "## Packets"), re.M)
+        self.check("each is one of the protocol", sorted(set(rows) - set(names)))
 
 
 class Reports(Case):
@@ -216,7 +272,10 @@ class Operating(Typed):
             (here.here / "etc/hosts").write_text(here.here_of(f"401 192.0.2.1:9001 self\n{at_server}\n"))
             (here.here / "config/hosts").write_text(here.here_of(f"{at_client}\n402 192.0.2.7:9002 self\n"))
             self.check_serves(here, "chaosd serve --hosts etc/hosts files", "host 401")
-            self.check_line(here, "chaosd put --hosts config/hosts A.LISP lispm:")
+            ended = here.run("chaosd put --hosts config/hosts A.LISP lispm:")
+            # what a client reports after 2 seconds of silence, which a busy machine may be
+            silence = b"chaosd: nothing sealed came from host 401 yet: does it run, and does it have this key for 402?\n"
+            self.check("put", ended.problems(DONE, b"", silence if ended.err == silence else b""))
             self.check("the file is there", stored_problems(here.here / "files/A.LISP", SOURCE))
             # the same without the key at this end: nothing comes
             (here.here / "config/hosts").write_text(here.here_of(f"{at_client.partition('key=')[0]}\n402 192.0.2.7:9002 self\n"))
@@ -236,6 +295,32 @@ class Operating(Typed):
             (here.here / "bad").write_text("401 nonsense self\n")
             ended = here.run(line.replace("hosts files", "bad files"))
             self.check("a bad line is reported, and nothing is opened", ended.problems(BAD_LINE, b"", [b"line 1: 'nonsense' is no UDP address"]))
+            in_use = re.search(r"Beside a running server a good table ends in `(.*?)`", text_of("docs/OPERATING.md"))[1]
+            self.check("a good one beside the server", here.run(line).problems(FAULT, b"", [f"can't open files: {in_use}\n".encode()]))
+            key.unlink()
+            self.check("a key that is gone", here.run(line).problems(FAULT, b"", [b"can't read the key file laptop.key: "]))
+
+    def test_the_hosts_table_of_the_manual_is_taken(self):
+        table = text_of("docs/chaosd.1").partition(".Ss Hosts table\n")[2].partition("-offset indent\n")[2].partition(".Ed\n")[0]
+        with shell() as here:
+            (here.here / "files").mkdir()
+            (key := here.here / "laptop.key").write_text("0" * 64 + "\n")
+            key.chmod(0o600)
+            (here.here / "hosts").write_text(here.here_of(table))
+            peers = ["402=192.0.2.7:9002", "*=192.0.2.1:42042"]
+            self.check_serves(here, "chaosd serve --hosts hosts files", "host 401 serves files at 0.0.0.0:9001", *peers)
+
+    def test_a_probe_ends_with_0_only_if_the_server_serves_the_folder(self):
+        line = re.search(r"with a file PROBE in the folder, `(chaosd get .*?)`", text_of("docs/OPERATING.md"))[1]
+        with shell() as here:
+            (files := here.here / "files").mkdir()
+            (files / "PROBE").write_bytes(SOURCE)
+            (here.here / "table").write_text(here.here_of("401 192.0.2.1:9001 lispm\n402 192.0.2.7:9002 self\n"))
+            self.check("no server", here.run(line, here.here / "table").problems(REFUSED, b"", [b"no server listens at "]))
+            self.check_serves(here, "chaosd serve 401 192.0.2.1:9001 files 402=192.0.2.7:9002", "host 401")
+            self.check(f"$ {line}", here.run(line, here.here / "table").problems(DONE, b"", b""))
+            files.rename(here.here / "away")
+            self.check("the folder is away", here.run(line, here.here / "table").problems(REFUSED, b"", [b"PROBE: STF Store fault."]))
 
     def test_a_server_says_that_it_is_there(self):
         line = re.search(r"`(echo \| chaosd ask .*?)`", text_of("docs/OPERATING.md"))[1]

@@ -192,23 +192,15 @@ static void begin(char **words) {
     if (chaos_ncp_create(&client.ncp, address, 1, WINDOW) < 0) end(NO_MEMORY, "no memory");
 }
 
-/* Asks the server for FILE. The server may still have a connection of an earlier run of this program, that was killed. So some
- * connections are given up first, of which it hears nothing: this run's then has another number. */
+/* Asks the server for FILE. The server may still have a connection of an earlier run of this program that was killed. So the node passes
+ * over as many numbers as the clock says, and this run's connection has another number. */
 static void call(void) {
     struct timespec time;
-    uint8_t datagram[CHAOS_NCP_MAX_DATAGRAM];
-    uint16_t to;
-    int32_t connection = 0;
     clock_gettime(CLOCK_REALTIME, &time);
     uint16_t first = (uint16_t)(time.tv_sec * 1000 + time.tv_nsec / 1000000);
-    for (int passed = 0; passed <= first % 256; passed++) {
-        if (passed) {
-            chaos_ncp_close(&client.ncp, (uint16_t)connection, (const uint8_t *)"", 0);
-            while (chaos_ncp_take(&client.ncp, &to, datagram, sizeof datagram) > 0) continue;
-        }
-        connection = chaos_ncp_connect(&client.ncp, client.server, (const uint8_t *)"FILE", 4, first, now());
-        if (connection < 0) end(FAULT, "no connection: %d", (int)connection);
-    }
+    chaos_ncp_pass(&client.ncp, (uint8_t)(time.tv_nsec / 1000));
+    int32_t connection = chaos_ncp_connect(&client.ncp, client.server, (const uint8_t *)"FILE", 4, first, now());
+    if (connection < 0) end(FAULT, "no connection: %d", (int)connection);
     client.connection = (uint16_t)connection;
 }
 

@@ -242,6 +242,28 @@ of the session."
                (setf (aref other at) (logxor (aref other at) (ash 1 (mod bit 8))))
                (check (not (chudp-packets other (length other))) (not (<= 2 at 3)))))))
 
+(defun last-word (line)
+  (subseq line (1+ (or (position #\Space line :from-end t) -1))))
+
+(defun test-chudp-file ()
+  "The vectors of CHUDP. A fault has another number here, and no link gives more than a buffer has."
+  (loop for (comments octets told) in (blocks "chudp")
+        for size = (length octets)
+        do (multiple-value-bind (packets fault) (chudp-packets octets size)
+             (flet ((word-of-trailer (at) (word-at octets (+ at (- size +trailer-size+)))))
+               (cond (packets
+                      (check (append (packet-report (first packets))
+                                     (list (format nil "trailer to ~6,'0o from ~6,'0o"
+                                                   (word-of-trailer 0) (word-of-trailer 2))
+                                           (format nil "sum ~4,'0x" (word-of-trailer 4))))
+                             (reverse told))
+                      (unless (or (free-p comments)
+                                  (/= (word-of-trailer 2) (pkt-from (first packets))))
+                        (check (chudp-datagram (first packets) (word-of-trailer 0)) octets)))
+                     ((<= size +most-datagram+)
+                      (check (last-word fault) (last-word (first told))))
+                     (t (check (first told) "fault 1 TooLong")))))))
+
 (defun test-chudp-faults ()
   (let ((octets (hex (first (second *chudp-vectors*)))))
     (flet ((changed (at octet)
@@ -393,6 +415,7 @@ of the session."
   (test-windows)
   (test-bundles)
   (test-chudp-vectors)
+  (test-chudp-file)
   (test-chudp-faults)
   (test-next-hop)
   (test-dialogue)

@@ -91,7 +91,7 @@ impl Judge<'_> {
             Some(0) => true,
             Some(21) => is_timed,
             None if line == NO_LINE => self.has(FaultKind::Refused),
-            _ => is_verbose && (line.contains(" bytes, ") || line.ends_with(" deleted") || line.ends_with(" renamed")),
+            _ => is_verbose && (line.contains(" bytes, ") || line.ends_with(" deleted") || line.contains(" renamed to ")),
         };
         let is_whole = errors.is_empty() || errors.ends_with('\n');
         if !is_whole || !errors.lines().all(is_right) {

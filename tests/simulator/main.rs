@@ -57,6 +57,11 @@ fn run(options: &Options) -> Result<bool, String> {
 
 fn main() -> ExitCode {
     let options = match Options::read(std::env::args().skip(1)) {
+        Ok(options) if options.is_help => {
+            print!("{HELP}");
+            return ExitCode::SUCCESS;
+        }
+        Ok(options) if options.is_check => return ExitCode::SUCCESS,
         Ok(options) => options,
         Err(why) => {
             eprintln!("simulator: {why}\n\n{HELP}");

@@ -36,6 +36,9 @@ pub struct Options {
     pub picture: Option<String>,
     /// The process plays every so many seeds, for another that reads its lines.
     pub stride: Option<u64>,
+    /// The words are read, and nothing is played.
+    pub is_check: bool,
+    pub is_help: bool,
 }
 
 impl Options {
@@ -45,6 +48,8 @@ impl Options {
         let mut words = words;
         while let Some(word) = words.next() {
             match word.as_str() {
+                "--help" => return Ok(Options { is_help: true, ..options }),
+                "--check" => options.is_check = true,
                 "--trace" => options.is_traced = true,
                 "--digest" => options.is_digest = true,
                 "--until-failure" => options.ends_at_failure = true,

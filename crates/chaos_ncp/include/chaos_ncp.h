@@ -70,7 +70,8 @@ enum chaos_ncp_fault {
     CHAOS_NCP_WRONG_STATE = -17,      /* the connection's state takes no such call */
     CHAOS_NCP_STILL_ACTIVE = -18,     /* release: the connection hasn't ended */
     CHAOS_NCP_BAD_OPCODE = -19,       /* write: the opcode is neither one of data, 0200 to 0377, nor that of an EOF, 014 */
-    CHAOS_NCP_SMALL_BUFFER = -20      /* the caller's buffer is too small for what is there */
+    CHAOS_NCP_SMALL_BUFFER = -20,     /* the caller's buffer is too small for what is there */
+    CHAOS_NCP_IN_USE = -21            /* pass: a connection is in use, or a datagram waits */
 };
 
 /* What a connection is doing. From CHAOS_NCP_ANSWERED on it has ended: read what is in front, then release it. */
@@ -89,6 +90,10 @@ enum chaos_ncp_state {
 
 /* Creates a node at this address, which isn't 0, with 1 to 255 connections, whose two windows have 1 to 64 packets each; 13 is usual. */
 int32_t chaos_ncp_create(chaos_ncp *ncp, uint16_t address, uint16_t connections, uint16_t window);
+
+/* Passes over `count` numbers of each slot. Peers may still have connections of an earlier process, and would take a new connection with
+ * the same number for the old one. So call this once, after chaos_ncp_create, with a drawn count. Nothing goes out. */
+int32_t chaos_ncp_pass(chaos_ncp *ncp, uint8_t count);
 
 /* Destroys the node, and says nothing to its peers: close the connections first. The handle is then as before the creation. */
 int32_t chaos_ncp_destroy(chaos_ncp *ncp);
@@ -158,8 +163,8 @@ int32_t chaos_ncp_write(chaos_ncp *ncp, uint16_t connection, uint8_t opcode, con
  * packet has, which may be 0. CHAOS_NCP_MAX_DATA bytes are always enough. */
 int32_t chaos_ncp_front(chaos_ncp *ncp, uint16_t connection, uint8_t *opcode, uint8_t *buffer, size_t room);
 
-/* Passes over the packet in front, which lets the peer write more. Answers 1, or 0 if nothing was in front. Write the reply to a packet
- * before you pass over the packet: so you read none that you can't reply to. */
+/* Passes over the packet in front, which lets the peer write more. Answers 1, or 0 if nothing was in front. Ask chaos_ncp_can_write, pass
+ * over the packet, then write the reply: so you read no packet that you can't reply to, and the reply acknowledges the packet. */
 int32_t chaos_ncp_read_done(chaos_ncp *ncp, uint16_t connection);
 
 /* Copies the bytes of the packet by which the connection ended, as chaos_ncp_front does: the opcode is 05 for an ANS, 03 for a CLS, 011

@@ -1,2 +1,3 @@
+mod Empty
 mod Values
 mod RawValues

@@ -1,7 +1,7 @@
 -- The numbers by which C knows what calls answer: `negsuc n` is the number -(n + 1).
 use Rattle.std.specs.Prelude.{ℕ, Bool, true, false, ℤ, pos, negsuc, Result, Ok, Err}
 use Rattle.chaos_ncp.specs.declared.fault.Fault.{Fault}
-use Rattle.chaos_ncp.specs.declared.fault.Fault.TheVariants.{NoNode, HasNode, BadAddress, BadCount, BadWindow, NoMemory, OutboxFull, BadDatagram, TooLong, BadContact, AlreadyListens, TooManyContacts, TableFull, NoConnection, NotOpen, WindowFull, WrongState, StillActive, BadOpcode, SmallBuffer}
+use Rattle.chaos_ncp.specs.declared.fault.Fault.TheVariants.{NoNode, HasNode, BadAddress, BadCount, BadWindow, NoMemory, OutboxFull, BadDatagram, TooLong, BadContact, AlreadyListens, TooManyContacts, TableFull, NoConnection, NotOpen, WindowFull, WrongState, StillActive, BadOpcode, SmallBuffer, InUse}
 
 abbrev pub code_of : Fault → ℤ
 code_of NoNode = negsuc 0
@@ -24,6 +24,7 @@ code_of WrongState = negsuc 16
 code_of StillActive = negsuc 17
 code_of BadOpcode = negsuc 18
 code_of SmallBuffer = negsuc 19
+code_of InUse = negsuc 20
 
 -- of a call that says no more than whether it was refused
 abbrev pub done_code : Result (Unit {0}) Fault → ℤ

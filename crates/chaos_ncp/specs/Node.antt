@@ -1,12 +1,15 @@
 -- What calls make of a node.
-use Rattle.std.specs.Prelude.{◌≡◌, ◌<◌, ℕ, List, take, Option, Some, None, Result, Err, IsSomeAnd}
+use Rattle.std.specs.Prelude.{◌≡◌, ◌<◌, ℕ, List, [], take, Option, Some, None, Result, Err, IsSomeAnd}
 use Rattle.chaos_packet.specs.Packet.{PacketView}
 use Rattle.chaos_packet.specs.Outbox.{room_of, with_put}
 use Rattle.chaos_link.specs.Datagram.{datagram_of}
 use Rattle.chaos_host.specs.Acted.{HostActed}
+use Rattle.chaos_host.specs.NextInUse.{IsNextInUse}
+use Rattle.chaos_node.specs.Passing.{after_passing}
 use Rattle.chaos_ncp.specs.declared.fault.Fault.{Fault}
 use Rattle.chaos_ncp.specs.declared.fault.Fault.TheVariants.{OutboxFull}
 use Rattle.chaos_ncp.specs.declared.node.Node.{Node}
+use Rattle.chaos_ncp.specs.declared.node.TheConstants.{ANYONE}
 use Rattle.chaos_packet.specs.Item.{ItemView}
 use Rattle.std.specs.Prelude.{option_map}
 use Rattle.chaos_ncp.specs.declared.node.Front.{Front}
@@ -31,3 +34,12 @@ module _ {A : Type 0} where
 pub record MakesCall {A B : Type 0} (old new : Node) (acted : HostActed A) (answer : Result B Fault) : Type 0 where
   pub made : 0 < room_of old.out → new ≡ after_call old acted
   pub full : room_of old.out ≡ 0 → (answer ≡ Err OutboxFull) × (new ≡ old)
+
+-- Each slot of the node's host is free, and no packet waits.
+pub record IsUnused (node : Node) : Type 0 where
+  pub free : IsNextInUse node.host 0 None
+  pub empty : node.out.packets ≡ []
+
+-- a node each of whose slots used up so many indices
+abbrev pub after_pass : ℕ → Node → Node
+after_pass count node = record node { host = after_passing ANYONE count node.host }

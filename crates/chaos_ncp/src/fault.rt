@@ -48,6 +48,8 @@ pub enum Fault {
     BadOpcode,
     /// The caller's buffer is too small.
     SmallBuffer,
+    /// A connection is in use, or a datagram waits.
+    InUse,
 }
 
 impl Fault {
@@ -77,6 +79,7 @@ impl Fault {
             Fault::StillActive => -18,
             Fault::BadOpcode => -19,
             Fault::SmallBuffer => -20,
+            Fault::InUse => -21,
         }
     }
 }

@@ -1,9 +1,10 @@
-//! A node is created and destroyed.
+//! A node is created, passes over indices, and is destroyed.
 ghost use Rattle.std.specs.Prelude.{◌≡◌, ◌≢◌, false, true, pos, negsuc, OnOk, OnErr, Err};
-ghost use Rattle.chaos_ncp.specs.Handle.{has_node};
+ghost use Rattle.chaos_ncp.specs.Export.{Passes};
+ghost use Rattle.chaos_ncp.specs.Handle.{Keeps, has_node};
 ghost use Rattle.chaos_ncp.specs.declared.fault.Fault.{Fault};
 
-use crate::calling::done;
+use crate::calling::{done, on_node};
 use crate::fault::Fault;
 use crate::handle::Handle;
 use crate::node::Node;
@@ -49,6 +50,17 @@ fn create(
         }
         Err(_) => Err(Fault::NoMemory),
     }
+}
+
+/// Passes over so many indices of each slot.
+#[unsafe(no_mangle)]
+pub extern "C" fn chaos_ncp_pass(alloc: Global, handle: &mut Handle, count: u8) -> i32
+    // The handle keeps its node. A handle without a node is refused.
+    ensures keeps { Keeps handle.old.mark handle.new.mark result }
+    // Each slot of an unused node uses up so many indices. A node that is in use stays as it is.
+    ensures passes { Passes handle.old.mark handle.old.raw.node handle.new.raw.node count result }
+{
+    on_node!(alloc, handle, node => done(node.pass(count)))
 }
 
 /// Destroys a node, and gives its memory back.

@@ -14,12 +14,13 @@ ghost use Rattle.chaos_host.specs.View.{host_look, id_at, new_host};
 ghost use Rattle.chaos_link.specs.declared.limits.TheConstants.{MAX_PACKETS};
 ghost use Rattle.chaos_packet.specs.Outbox.{room_of, with_put, without_oldest};
 ghost use Rattle.chaos_packet.specs.Request.{arguments_in, contact_in};
-ghost use Rattle.chaos_ncp.specs.Node.{MakesCall, Takes, item_of};
+ghost use Rattle.chaos_ncp.specs.Node.{IsUnused, MakesCall, Takes, after_pass, item_of};
 
 use crate::fault::Fault;
 use chaos_conn::{ConnConfig, Disposition, ReadDone, State};
 use chaos_host::{ConnId, Host, HostDisposition};
 use chaos_link::{MAX_DATAGRAM, MAX_PACKETS, open_datagram, write_datagram};
+use chaos_node::pass_indices;
 use chaos_packet::{Opcode, Outbox, Packet, PktNum};
 use std::alloc::Global;
 use std::mem::swap;
@@ -29,6 +30,9 @@ const OUT_ROOM: usize = 66;
 
 /// The greatest window, in packets.
 const MAX_WINDOW: u16 = 64;
+
+/// The peer of the connections that use up indices. Their packets are never sent.
+const ANYONE: u16 = 1;
 
 /// A datagram that goes out.
 #[derive(Clone, Copy, Debug, PartialEq, Eq)]
@@ -120,6 +124,37 @@ impl Node {
         } }
     {
         Ok(self.host.listen(contact)?)
+    }
+
+    /// Passes over so many indices of each slot, which an older process may have had.
+    ///
+    /// # Errors
+    /// `InUse` if a connection is in use, or a datagram waits.
+    pub fn pass(&mut self, count: u8) -> Result<(), Fault>
+        // Each slot used up so many indices. Nothing else changes.
+        ensures passed { OnOk result (self.new ≡ after_pass count self.old) }
+        // The call is made where no connection is in use and the outbox is empty. Otherwise the
+        // call is refused, and nothing changes.
+        ensures unused { OnOk result (IsUnused self.old) }
+        ensures taken { IsUnused self.old → 0 < room_of self.old.out → result ≡ Ok tt }
+        ensures refused { OnErr result (self.new ≡ self.old) }
+        ensures fault { IfErr result (λ fault. fault ≡ Fault.InUse) }
+    {
+        if !self.is_unused() || self.out.room() == 0 {
+            return Err(Fault::InUse);
+        }
+        pass_indices(&mut self.host, ANYONE, count, &mut self.out);
+        Ok(())
+    }
+
+    /// Whether no connection is in use, and no packet waits.
+    #[tactic(auto, using(crate::proofs::Empty::none_first))]
+    fn is_unused(&self) -> bool
+        // The answer is whether that is so.
+        ensures yes { result ≡ true → IsUnused self.now }
+        ensures no { IsUnused self.now → result ≡ true }
+    {
+        matches!(self.host.next_conn(0), None) && matches!(self.out.front(), None)
     }
 
     /// Takes a datagram that came, of either version.

@@ -10,3 +10,4 @@ pub mod Station
 pub mod Turn
 pub mod Clock
 pub mod Moments
+pub mod Passing

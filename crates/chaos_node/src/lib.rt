@@ -11,7 +11,8 @@
 //!
 //! The moments of turns come from a clock that is handed in: a [`ReadableClock`] says what a clock
 //! shows. An [`Epoch`] is its reading when a run begins, and [`Moments`] are read one after another.
-//! A [`NodeFault`] is what can end turns.
+//! A [`NodeFault`] is what can end turns. [`pass_indices`] uses up the indices that an older process
+//! may have had.
 #![tactic(auto)]
 
 mod arriving;
@@ -24,6 +25,7 @@ mod last_packet;
 mod limits;
 mod moments;
 mod node;
+mod passing;
 mod readable_clock;
 mod receiving;
 mod sending;
@@ -39,6 +41,7 @@ pub use last_packet::LastPacket;
 pub use limits::TURN_ROOM;
 pub use moments::{ClockMoments, Moments};
 pub use node::Node;
+pub use passing::pass_indices;
 pub use readable_clock::ReadableClock;
 pub use sending::{law_read_back, law_sends_one, send_all, send_singly};
 pub use turn::Turn;

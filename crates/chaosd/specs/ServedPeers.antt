@@ -2,6 +2,9 @@
 use Rattle.std.specs.Prelude.{◌≡◌, ◌⊎◌, ℕ, true, List, Option, Some, None, Ok, option_map, string_bytes}
 use Rattle.chaos_link.specs.Keeper.{Incoming}
 use Rattle.chaos_link.specs.Peers.{PeersView}
+use Rattle.chaos_link.specs.declared.peers.Peer.{Peer}
+use Rattle.chaos_chudp.specs.Hops.{HopsView}
+use Rattle.chaosd_call.specs.Hops.{hops_by}
 use Rattle.chaosd_hosts.specs.Following.{FollowedView, peers_behind}
 use Rattle.chaosd_hosts.specs.Kept.{peers_after}
 use Rattle.chaosd_hosts.specs.Keys.{has_keys_of}
@@ -16,6 +19,11 @@ use Rattle.chaosd.specs.declared.table_watch.TableWatch.{TableWatch}
 abbrev pub form_by : Framing → DatagramForm
 form_by (framing.Own carriage) = form.Own
 form_by (framing.Chudp bridge) = form.Chudp
+
+-- the hops of a framing: in CHUDP those over its bridge, and else each host is its own
+abbrev pub hops_in : Framing → List Peer → HopsView
+hops_in (framing.Own carriage) hosts = hops_by hosts None
+hops_in (framing.Chudp bridge) hosts = hops_by hosts bridge
 
 -- The text of the table that was taken in last, if the peers come from a table.
 abbrev pub text_taken : {R : Type 0} → Option (TableWatch R) → Option (List ℕ)

@@ -264,7 +264,7 @@ where
     let is_reported = terminals.errors && !line.is_quiet;
     let waiting = Waiting::new(rt, asked.server, is_reported, key.is_some());
     let heard = heard_alone(asked.server, line.hears_anybody);
-    let socket = WaitingSocket::new(PeerSocket::new(rt, socket, heard), &waiting);
+    let socket = WaitingSocket::new(PeerSocket::new(rt, &waiting, socket, heard), &waiting);
     let socket = match sealed_to(rt, socket, ends.address, asked.server.address, key) {
         Ok(socket) => socket,
         Err(status) => return status,

@@ -9,6 +9,7 @@ ghost use Rattle.std.specs.Prelude.{◌≡◌, ◌≤◌, length, true};
 mod asking;
 mod descriptors;
 mod looping;
+mod restarts;
 mod runs;
 mod script_ends;
 mod serve_keys;

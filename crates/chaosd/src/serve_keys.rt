@@ -39,6 +39,23 @@ fn keys_for<R: AllocGlobal>(
     Ok(keys)
 }
 
+/// The hosts that have these keys. That there is no memory is reported, and the error is the status.
+pub(crate) fn keyed_of<R: AllocGlobal + Eprint>(
+    rt: &R,
+    keys: &[HostKey],
+) -> Result<Vec<u16>, ExitStatus>
+    // The hosts are those of the keys, in the order of the keys.
+    ensures { IfOk result (λ hosts. hosts.items ≡ hosts_of keys.now) }
+{
+    let mut hosts = Vec::new(rt.alloc());
+    for key in keys {
+        if let Err(error) = hosts.push(key.address) {
+            return Err(report_full(rt, AllocError::from(error)));
+        }
+    }
+    Ok(hosts)
+}
+
 /// The keys of a server with these ends, of whose line this is the file of the key. A file that
 /// gives no key is reported, and the error is the status.
 pub(crate) fn keys_of_line<R>(

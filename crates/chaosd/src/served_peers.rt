@@ -8,15 +8,21 @@ use std::fs::{File, Files};
 use std::net::SocketAddrV4;
 use std::time::Clock;
 
+/// What is wrong with a table that has a host with `*`, where only peers are heard: such a host
+/// would never be one.
+pub(crate) const UNHEARD: &str = "a host with * can't be heard with --only-peers";
+
 /// What is logged of a table whose hosts have other keys: the keys are read at the start alone.
 const KEYS_CHANGED: &str = "the keys changed, which needs a restart; the hosts stay";
 
 /// Keeps the peers of a server. A host that is followed is where its last good datagram came from.
 /// Behind an idle turn the hosts table is read again, if there is one and its file changed. A table
-/// whose hosts have other keys isn't taken in.
+/// whose hosts have other keys isn't taken in, nor one that a start would refuse.
 #[derive(Drop)]
 pub(crate) struct ServedPeers<'a, R> {
     pub(crate) followed: FollowedHosts,
+    /// Whether datagrams from elsewhere than a peer's UDP address are dropped.
+    pub(crate) hears_only_peers: bool,
     /// The file of the hosts table, where the peers come from one.
     pub(crate) table: Option<TableWatch<'a, R>>,
 }
@@ -38,9 +44,12 @@ impl<R: AllocGlobal + Clock + Eprint + Files<File = File>> PeerKeeper for Served
             return;
         };
         match HostsTable::read(text.as_str()) {
+            Ok(table) if self.hears_only_peers && !table.followed().is_empty() => {
+                watch.log(&format_args!("{UNHEARD}; the hosts stay"));
+            }
             Ok(table) => {
                 if watch.has_keys_of(&table) {
-                    watch.log_hosts(table.hosts().len());
+                    watch.log_hosts(&table);
                     self.followed.follow(table.followed());
                     *peers = table.into_peers_after(peers);
                     watch.keep(text);

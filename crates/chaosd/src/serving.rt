@@ -1,16 +1,18 @@
 //! The run of `serve`.
-ghost use Rattle.std.specs.Prelude.{◌<◌, ◌≡◌, IfOk};
+ghost use Rattle.std.specs.Prelude.{◌<◌, ◌≡◌, ◌≤◌, IfOk, length};
+ghost use Rattle.chaos_link.specs.declared.limits.TheConstants.{MAX_PEERS};
 ghost use Rattle.chaosd_call.specs.Config.{config_by};
 ghost use Rattle.chaosd_line.specs.Framings.{carriage_of};
-ghost use Rattle.chaosd.specs.ServedPeers.{form_by};
+ghost use Rattle.chaosd.specs.ServedPeers.{form_by, hops_in};
 
-use crate::serve_keys::{is_sealed_line, keys_of_line, keys_of_table};
-use crate::served_peers::ServedPeers;
+use crate::restarts::Start;
+use crate::serve_keys::{is_sealed_line, keyed_of, keys_of_line, keys_of_table};
+use crate::served_peers::{ServedPeers, UNHEARD};
 use crate::table_watch::TableWatch;
 use arrayvec::ArrayVec;
-use chaos_chudp::ChudpLink;
+use chaos_chudp::{ChudpLink, Hops};
 use chaos_file::{DirStore, PrintedName, ReadOnly, Store};
-use chaos_link::{Link, MAX_PEERS, Peers, Reports, UdpLink};
+use chaos_link::{Link, MAX_PEERS, Peer, Peers, Reports, UdpLink};
 use chaos_node::{ClockMoments, Epoch};
 use chaos_sealed_socket::SealedSocket;
 use chaosd_call::{
@@ -20,7 +22,7 @@ use chaosd_call::{
 use chaosd_hosts::{DatagramForm, FollowedHosts, Host};
 use chaosd_io::RunFault;
 use chaosd_line::{Framing, LogLevel, Serve, ServeEnds, ServePlace};
-use chaosd_log::{Journal, Level, LogLines, PeerSources, RefusalLog, Topic};
+use chaosd_log::{Heard, Journal, Level, LogLines, PeerSources, RefusalLog, Topic};
 use file_server::{ServeOptions, run_serve_by};
 use std::fs::{File, Files};
 use std::io;
@@ -184,11 +186,25 @@ fn form_of(framing: Framing) -> DatagramForm
     }
 }
 
+/// The hops of packets that go out to these hosts in a framing.
+fn hops_by(framing: Framing, hosts: &[Peer]) -> Hops
+    requires { length hosts.now ≤ MAX_PEERS }
+    // In CHUDP the hops are those over the bridge that the framing names. In every other framing
+    // each host is its own hop.
+    ensures { result ≡ hops_in framing hosts.now }
+{
+    match framing {
+        Framing::Own(_) => Hops::direct(),
+        Framing::Chudp(bridge) => hops_of(hosts, bridge),
+    }
+}
+
 /// Who keeps the peers of a server.
 fn keeper_of<'a, R: AllocGlobal + Clock + Eprint + Files<File = File>>(
     rt: &'a R,
     line: &Serve<'_>,
     followed: ArrayVec<u16, MAX_PEERS>,
+    start: Start,
     table: Option<TableFile>,
 ) -> ServedPeers<'a, R>
     // These hosts are followed, in the datagrams of the line's framing.
@@ -196,11 +212,12 @@ fn keeper_of<'a, R: AllocGlobal + Clock + Eprint + Files<File = File>>(
 {
     let lines = LogLines::new(rt, line.is_timed);
     let table = match table {
-        Some(file) => Some(TableWatch::new(rt, lines, is_quiet(line), file)),
+        Some(file) => Some(TableWatch::new(rt, lines, is_quiet(line), start, file)),
         None => None,
     };
     ServedPeers {
         followed: FollowedHosts::new(form_of(line.framing), followed),
+        hears_only_peers: line.hears_only_peers,
         table,
     }
 }
@@ -227,7 +244,16 @@ fn serve_folder<R: AllocGlobal + Clock + Eprint + Files<File = File> + Net>(
     folder: DirStore<&R>,
     socket: ServerSocket<'_, R>,
 ) -> ExitStatus {
-    let Place { ends, table, .. } = place;
+    let Place {
+        ends,
+        keys,
+        is_sealed,
+        table,
+    } = place;
+    let keyed = match keyed_of(rt, keys.as_slice()) {
+        Ok(keyed) => keyed,
+        Err(status) => return status,
+    };
     let options = options_of(line, &ends, epoch);
     let peers = match ends.peers.clone() {
         Ok(peers) => peers,
@@ -235,15 +261,23 @@ fn serve_folder<R: AllocGlobal + Clock + Eprint + Files<File = File> + Net>(
     };
     let level = level_of(line.is_quiet, line.log);
     let mut journal = Journal::new(rt, level, line.is_timed, PeerSources::new(peers));
-    journal.begin(ends.address, ends.socket, line.folder, &ends.peers);
-    let hops = match line.framing {
-        Framing::Own(_) => None,
-        Framing::Chudp(bridge) => Some(hops_of(ends.peers.hosts(), bridge)),
+    let heard = Heard {
+        peers: &ends.peers,
+        followed: ends.followed.as_slice(),
+        keyed: keyed.as_slice(),
+        is_sealed,
     };
-    let keeper = keeper_of(rt, line, ends.followed, table);
+    journal.begin(ends.address, ends.socket, line.folder, &heard);
+    let hops = hops_by(line.framing, ends.peers.hosts());
+    let start = Start {
+        address: ends.address,
+        socket: ends.socket,
+        hops: hops_by(line.framing, ends.peers.hosts()),
+    };
+    let keeper = keeper_of(rt, line, ends.followed, start, table);
     let mut link = link_over(socket, ends.peers, line.hears_only_peers).kept_by(keeper);
-    match hops {
-        None => serve_store(
+    match line.framing {
+        Framing::Own(_) => serve_store(
             rt,
             options,
             &mut journal,
@@ -251,7 +285,7 @@ fn serve_folder<R: AllocGlobal + Clock + Eprint + Files<File = File> + Net>(
             folder,
             line.is_read_only,
         ),
-        Some(hops) => {
+        Framing::Chudp(_) => {
             let mut link = ChudpLink::new(link, ends.address, hops);
             serve_store(
                 rt,
@@ -286,7 +320,7 @@ where
     }
     let followed = table.followed();
     if line.hears_only_peers && !followed.is_empty() {
-        return Err(report_table(rt, name, &"a host with * can't be heard with --only-peers"));
+        return Err(report_table(rt, name, &UNHEARD));
     }
     let keys = keys_of_table(rt, &file, &table, line.framing)?;
     let is_sealed = table.is_sealed();

@@ -2,6 +2,7 @@
 ghost use Rattle.std.specs.Prelude.{◌≡◌, string_bytes, true};
 ghost use Rattle.chaosd.specs.ServedPeers.{HasKeysOf};
 
+use crate::restarts::Start;
 use chaos_file::PrintedName;
 use chaosd_call::{TableFile, read_table};
 use chaosd_hosts::HostsTable;
@@ -39,6 +40,8 @@ pub(crate) struct TableWatch<'a, R> {
     lines: LogLines<'a, R>,
     /// Whether only faults are logged.
     is_quiet: bool,
+    /// What the server has from its start on.
+    start: Start,
     /// The table that was taken in last.
     pub(crate) file: TableFile,
     /// What the file had when it was read last, where that was not taken in.
@@ -52,12 +55,19 @@ pub(crate) struct TableWatch<'a, R> {
 }
 
 impl<'a, R: AllocGlobal + Clock + Eprint + Files<File = File>> TableWatch<'a, R> {
-    /// A watch over this file, which was just read.
-    pub(crate) fn new(rt: &'a R, lines: LogLines<'a, R>, is_quiet: bool, file: TableFile) -> Self {
+    /// A watch over this file, which a server with this start just read.
+    pub(crate) fn new(
+        rt: &'a R,
+        lines: LogLines<'a, R>,
+        is_quiet: bool,
+        start: Start,
+        file: TableFile,
+    ) -> Self {
         TableWatch {
             rt,
             lines,
             is_quiet,
+            start,
             file,
             left: None,
             seen: None,
@@ -76,10 +86,23 @@ impl<'a, R: AllocGlobal + Clock + Eprint + Files<File = File>> TableWatch<'a, R>
         }
     }
 
-    /// Logs that the table was taken in, with so many other hosts.
-    pub(crate) fn log_hosts(&self, count: usize) {
+    /// Logs that this table was taken in, and what of the table needs a restart.
+    pub(crate) fn log_hosts(&self, table: &HostsTable<'_>) {
+        let count = table.hosts().len();
         if !self.is_quiet {
-            self.log(&format_args!("read again, {count} other hosts"));
+            let plural = if count == 1 { "" } else { "s" };
+            self.log(&format_args!("read again, {count} other host{plural}"));
+        }
+        if let Some(change) = self.start.own_change(table) {
+            self.log(&change);
+        }
+        for peer in table.peers().hosts() {
+            if self.start.misses(peer, table.bridge()) {
+                let address = peer.address;
+                self.log(&format_args!(
+                    "host {address:o} outside the bridge is new, which needs a restart"
+                ));
+            }
         }
     }
 

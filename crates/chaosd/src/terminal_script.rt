@@ -5,7 +5,9 @@ ghost use Rattle.chaosd.specs.Typed.{number_behind};
 ghost use Rattle.chaosd_ask.specs.declared.typed.TheConstants.{MAX_TYPED};
 
 use crate::typed_help::show_help;
-use chaosd_ask::{Front, InputReady, MAX_TYPED, ReplyNotes, read_command, write_front};
+use chaosd_ask::{
+    Front, InputReady, MAX_TYPED, NoCommand, ReplyNotes, no_command, read_command, write_front,
+};
 use chaosd_io::Data;
 use std::fmt::Display;
 use std::fs::File;
@@ -59,7 +61,7 @@ impl Word {
 
 /// A script that is read from standard input. On a terminal it asks for each line by a prompt. It
 /// puts a tid in front of a command that is typed without one, and shows that. It leaves out and
-/// reports a line that stands for no command. Where a run is to end by its first error, it gives a
+/// reports a line that is no command of FILE. Where a run is to end by its first error, it gives a
 /// line at a time, and none behind an error. It can be asked whether a line was typed.
 #[derive(Drop)]
 pub(crate) struct TerminalScript<'a, R: Eprint, I: Read> {
@@ -101,6 +103,14 @@ fn line_length(bytes: &[u8]) -> usize
     bytes.len()
 }
 
+/// Whether a line has come up to the newline that ends it.
+fn is_whole(line: &[u8]) -> bool {
+    match line.last() {
+        Some(last) => *last == b'\n',
+        None => false,
+    }
+}
+
 /// A line without the newline that ends it.
 fn bare(line: &[u8]) -> &[u8] {
     line.strip_suffix(b"\n".as_slice()).unwrap_or(line)
@@ -132,9 +142,7 @@ impl<'a, R: Eprint, I: Read> TerminalScript<'a, R, I> {
             return;
         }
         if self.is_login {
-            let _ = eprintln!(self.rt;
-                "chaosd: LOGIN was read as a handle: a command without a handle has two spaces before its word, as in `T1  LOGIN LISPM`"
-            );
+            let _ = eprintln!(self.rt; "chaosd: {}", NoCommand::LoginHandle);
         }
         let _ = eprint!(self.rt; "> ");
     }
@@ -162,7 +170,7 @@ impl<'a, R: Eprint, I: Read> TerminalScript<'a, R, I> {
     }
 
     /// Looks at the next line, which is to be a command: its tid is put in front where that is
-    /// missing. A line that stands for no command is passed by, and that is reported.
+    /// missing. A line that is no command of FILE is passed by once it is whole, and that is reported.
     fn see_command(&mut self) {
         let mut command = Data::new();
         let mut front = Front::new();
@@ -174,6 +182,10 @@ impl<'a, R: Eprint, I: Read> TerminalScript<'a, R, I> {
         }
         write_front(command.as_slice(), self.number, &mut front);
         if front.is_empty() {
+            match no_command(command.as_slice()) {
+                Some(why) if is_whole(self.next_line()) => self.refuse_line(&why),
+                _ => {}
+            }
             return;
         }
         if !self.put_in_front(front.as_slice()) {

@@ -29,4 +29,4 @@ pub use loop_run::run_loop;
 pub use notes::{HandleName, Notes, ReplyNotes};
 pub use script::ask_script;
 pub use serve_run::run_serve;
-pub use typed::{Front, MAX_TYPED, write_front};
+pub use typed::{Front, MAX_TYPED, NoCommand, no_command, write_front};

@@ -1,11 +1,13 @@
 //! A command that is typed without its tid.
 ghost use Rattle.std.specs.Prelude.{◌≡◌, ◌≤◌, ◌++◌, length};
-ghost use Rattle.chaosd_ask.specs.Typed.{front_of, is_formed, is_formed_behind, tid_of};
+ghost use Rattle.chaosd_ask.specs.Typed.{front_of, is_formed, is_formed_behind, no_command, tid_of, why_by_handle};
 ghost use Rattle.chaosd_ask.specs.declared.typed.TheConstants.{MAX_TYPED};
 
 use arrayvec::ArrayVec;
 use chaos_file::{Parsed, parse_command};
 use itoa::Buffer;
+use std::fmt;
+use std::fmt::{Display, Formatter};
 
 /// The greatest number that a tid is made of: `T` and seven digits.
 pub const MAX_TYPED: u32 = 9_999_999;
@@ -24,6 +26,52 @@ fn is_formed(command: &[u8]) -> bool
         parse_command(command),
         Parsed::Good(_, _, _) | Parsed::BadPath(_, _, _)
     )
+}
+
+/// Why a line that somebody types is no command of FILE.
+#[derive(Clone, Copy, Debug, PartialEq, Eq)]
+pub enum NoCommand {
+    /// LOGIN stands where the handle does, since there is one space before it.
+    LoginHandle,
+    /// Anything else.
+    Other,
+}
+
+impl Display for NoCommand {
+    fn fmt<W: fmt::Write>(&self, f: &mut Formatter<W>) -> fmt::Result {
+        f.write_str(match self {
+            NoCommand::LoginHandle => {
+                "LOGIN was read as a handle: a command without a handle has two spaces before its word, as in `T1  LOGIN LISPM`"
+            }
+            NoCommand::Other => "it is no command of FILE (help lists the commands)",
+        })
+    }
+}
+
+/// Why bytes with this handle are no command of FILE.
+fn why_by_handle(handle: &[u8]) -> NoCommand
+    ensures { result ≡ why_by_handle handle.now }
+{
+    if handle == b"LOGIN".as_slice() {
+        NoCommand::LoginHandle
+    } else {
+        NoCommand::Other
+    }
+}
+
+/// Why these bytes are no command of FILE, where they are none. The paths of a command may be
+/// illegal.
+pub fn no_command(command: &[u8]) -> Option<NoCommand>
+    // There is a reason exactly where the bytes are no command of FILE. The reason names LOGIN where
+    // that is the handle.
+    ensures { result ≡ no_command command.now }
+{
+    match parse_command(command) {
+        Parsed::BadHead => Some(NoCommand::Other),
+        Parsed::NoWord(_, handle) | Parsed::Unknown(_, handle) | Parsed::BadForm(_, handle, _) =>
+            Some(why_by_handle(handle)),
+        Parsed::BadPath(_, _, _) | Parsed::Good(_, _, _) => None,
+    }
 }
 
 /// Whether a command is one of FILE behind these bytes. A command that is too long is none.

@@ -1,10 +1,13 @@
 pub mod Called
 pub mod Config
 pub mod CopyRun
+pub mod Epochs
 pub mod Exit
 pub mod Hearing
 pub mod Hops
 pub mod Key
+pub mod NewNames
 pub mod Patience
 pub mod ProgressText
 pub mod Routes
+pub mod Sending

@@ -1,7 +1,7 @@
 //! The runs of `delete` and `rename`: what another host does with its files.
 use crate::dialogs::{Caller, Work};
 use crate::exit_status::ExitStatus;
-use crate::file_words::{CHANGE_UNKNOWN, FileWords};
+use crate::file_words::{CHANGE_UNKNOWN, Deed, FileWords, is_done_reported};
 use crate::progress::ProgressLine;
 use chaos_file::MAX_PATH;
 use chaos_link::Link;
@@ -9,23 +9,23 @@ use chaos_node::ReadableClock;
 use chaosd_line::{Calling, Delete, Rename};
 use file_client::{Client, ClientHost, ClockDriver, Timing};
 use file_copy::Talk;
-use file_names::Destination;
 use file_transfer::{DeleteFiles, Outcome, OutcomeSink, ProgressSink, Session, run_copies};
 
-/// Reports changes. A change that was made is reported where the user asked for that.
-fn words_of<'a, 'r, R: Eprint>(
+/// Reports changes. A change that was made is reported where the user asked for that, and on a
+/// terminal.
+fn words_of<'a, 'r, 't, R: Eprint>(
     rt: &'a R,
     caller: &'a Caller<'a, 'r, R>,
     is_verbose: bool,
-    done: &'static str,
-) -> FileWords<'a, 'r, 'static, R> {
+    is_quiet: bool,
+    deed: Deed<'t>,
+) -> FileWords<'a, 'r, 't, R> {
     FileWords {
         rt,
         caller,
         run: None,
-        is_verbose,
-        destination: Destination::SameName,
-        done,
+        is_verbose: is_done_reported(is_verbose, is_quiet, caller.is_terminal),
+        deed,
         unknown: CHANGE_UNKNOWN,
     }
 }
@@ -57,7 +57,8 @@ impl<R: AllocGlobal + ReadableClock + Eprint> Work<R> for Delete<'_> {
         caller: &Caller<'v, '_, R>,
     ) -> ExitStatus {
         let progress = no_progress(rt, caller);
-        let mut words = words_of(&*rt, &*caller, self.is_verbose, "deleted");
+        let (is_verbose, is_quiet) = (self.is_verbose, self.is_quiet);
+        let mut words = words_of(&*rt, &*caller, is_verbose, is_quiet, Deed::Delete);
         let mut host = host;
         let driver = ClockDriver::new(clock, link, timing);
         let client = Client {
@@ -103,7 +104,9 @@ impl<R: AllocGlobal + ReadableClock + Eprint> Work<R> for Rename<'_> {
         caller: &Caller<'v, '_, R>,
     ) -> ExitStatus {
         let progress = no_progress(rt, caller);
-        let mut words = words_of(&*rt, &*caller, self.is_verbose, "renamed");
+        let (is_verbose, is_quiet) = (self.is_verbose, self.is_quiet);
+        let deed = Deed::Rename(self.to);
+        let mut words = words_of(&*rt, &*caller, is_verbose, is_quiet, deed);
         let mut host = host;
         let driver = ClockDriver::new(clock, link, timing);
         let client = Client {

@@ -1,5 +1,6 @@
 //! How a client calls: its numbers, its times, and how long it waits.
-ghost use Rattle.std.specs.Prelude.{◌≡◌, ◌<◌, IfOk, true};
+ghost use Rattle.std.specs.Prelude.{◌≡◌, ◌<◌, IfErr, IfOk, true};
+ghost use Rattle.chaosd_call.specs.Epochs.{IsEpochBy};
 ghost use Rattle.chaosd_call.specs.Patience.{patience_by};
 ghost use Rattle.chaosd_call.specs.Routes.{IsRouteOf};
 ghost use Rattle.chaosd_line.specs.Values.{is_contact};
@@ -54,7 +55,13 @@ fn drawn<R: Files<File = File>>(rt: &R) -> io::Result<(u16, u8)> {
 ///
 /// # Errors
 /// `Clock` where the clock can't be read.
-pub fn epoch_of<R: ReadableClock + Files<File = File>>(rt: &R) -> Result<Epoch, NodeFault> {
+pub fn epoch_of<R: ReadableClock + Files<File = File>>(rt: &R) -> Result<Epoch, NodeFault>
+    // The epoch has the clock's own time. Its first number and its count of indices were drawn, or
+    // are those of the clock's date.
+    ensures begins { IfOk result (IsEpochBy (R.shows rt.now) (R.dates rt.now)) }
+    // It fails only by the clock, where that may fail.
+    ensures faults { IfErr result (λ fault. (fault ≡ NodeFault.Clock) × R.fails rt.now) }
+{
     match drawn(rt) {
         Ok((first, passed)) => Epoch::drawn(rt, first, passed),
         Err(_) => Epoch::new(rt),

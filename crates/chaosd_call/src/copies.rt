@@ -4,7 +4,7 @@ ghost use Rattle.std.specs.Prelude.{◌≡◌, nat_lt};
 use crate::copy_run::CopyRun;
 use crate::dialogs::{Caller, Work};
 use crate::exit_status::ExitStatus;
-use crate::file_words::{FileWords, PUT_UNKNOWN};
+use crate::file_words::{Deed, FileWords, PUT_UNKNOWN, is_done_reported};
 use crate::input::has_input;
 use crate::progress::ProgressLine;
 use chaos_link::Link;
@@ -24,15 +24,14 @@ fn words_of<'a, 'r, 't, R: Eprint>(
     caller: &'a Caller<'a, 'r, R>,
     run: &'a CopyRun,
     copying: &Copying<'_>,
-    destination: Destination<'t>,
+    deed: Deed<'t>,
 ) -> FileWords<'a, 'r, 't, R> {
     FileWords {
         rt,
         caller,
         run: Some(run),
-        is_verbose: copying.is_verbose || (caller.is_terminal && !copying.is_quiet),
-        destination,
-        done: "copied",
+        is_verbose: is_done_reported(copying.is_verbose, copying.is_quiet, caller.is_terminal),
+        deed,
         unknown: PUT_UNKNOWN,
     }
 }
@@ -102,7 +101,7 @@ where
         let alloc = rt.alloc();
         let run = CopyRun::of_count(self.paths.len());
         let progress = progress_of(&*rt, &*caller, &run, copying);
-        let mut words = words_of(&*rt, &*caller, &run, copying, destination);
+        let mut words = words_of(&*rt, &*caller, &run, copying, Deed::Get(destination));
         let locals = Disk::new(&*rt, caller.client.socket.port());
         let mut host = host;
         let driver = ClockDriver::new(clock, link, timing);
@@ -161,7 +160,8 @@ where
         let is_shown = is_shown(caller.is_terminal, copying);
         let run = CopyRun::of_files(rt, self.files.as_slice(), is_shown);
         let progress = progress_of(&*rt, &*caller, &run, copying);
-        let mut words = words_of(&*rt, &*caller, &run, copying, Destination::SameName);
+        let deed = Deed::Put(self.files.as_slice());
+        let mut words = words_of(&*rt, &*caller, &run, copying, deed);
         let locals = Disk::new(&*rt, caller.client.socket.port());
         let mut host = host;
         let driver = ClockDriver::new(clock, link, timing);

@@ -100,6 +100,11 @@ impl CopyRun {
         self.count
     }
 
+    /// How many files were reported.
+    pub fn reported(&self) -> usize {
+        self.reported.get()
+    }
+
     /// The place of the file that is copied now, from 1 on.
     pub fn place(&self) -> usize {
         self.reported.get().saturating_add(1)

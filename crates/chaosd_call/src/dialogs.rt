@@ -80,7 +80,7 @@ where
         },
         is_terminal,
     };
-    let mut link = match link_to_server(rt, opened, calling.hears_anybody) {
+    let mut link = match link_to_server(rt, &waiting, opened, calling.hears_anybody) {
         Ok(link) => link,
         Err(status) => return status,
     };

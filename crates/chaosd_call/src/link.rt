@@ -9,6 +9,7 @@ use crate::open_ends::OpenEnds;
 use crate::peer_socket::PeerSocket;
 use crate::seal_words::SealWords;
 use crate::seals::seals_of;
+use crate::waiting::Waiting;
 use chaos_link::{Peer, Peers, UdpLink};
 use chaos_node::ReadableClock;
 use chaos_sealed_socket::SealedSocket;
@@ -17,16 +18,17 @@ use std::net::SocketAddrV4;
 /// A client's socket, which seals over the socket within what goes to its server.
 pub type ClientSocket<'a, R, S> = SealedSocket<S, SealWords<'a, R>>;
 
-/// A link over the socket of a call, to its server. That the clock can't be read is reported, and
-/// the error is the status.
-pub fn link_to_server<R: AllocGlobal + ReadableClock + Eprint>(
-    rt: &R,
+/// A link over the socket of a call, to its server. The client's wait notes how each send went. That
+/// the clock can't be read is reported, and the error is the status.
+pub fn link_to_server<'a, R: AllocGlobal + ReadableClock + Eprint>(
+    rt: &'a R,
+    waiting: &'a Waiting<'a, R>,
     opened: OpenEnds,
     hears_anybody: bool,
-) -> Result<UdpLink<ClientSocket<'_, R, PeerSocket<'_, R>>>, ExitStatus> {
+) -> Result<UdpLink<ClientSocket<'a, R, PeerSocket<'a, R>>>, ExitStatus> {
     let OpenEnds { ends, key, socket } = opened;
     let heard = heard_alone(ends.server, hears_anybody);
-    let socket = PeerSocket::new(rt, socket, heard);
+    let socket = PeerSocket::new(rt, waiting, socket, heard);
     let sealed = sealed_to(rt, socket, ends.address, ends.server.address, key)?;
     Ok(link_to(sealed, ends.server))
 }

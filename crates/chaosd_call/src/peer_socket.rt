@@ -2,6 +2,7 @@
 ghost use Rattle.std.specs.Prelude.{◌↔◌, IsTrue};
 ghost use Rattle.chaosd_call.specs.Hearing.{IsHeard};
 
+use crate::waiting::Waiting;
 use chaos_link::{DatagramSocket, LINK_ROOM, is_gone};
 use std::io;
 use std::io::ErrorKind;
@@ -10,19 +11,30 @@ use std::time::Duration;
 
 /// A client's socket. It drops a datagram that comes from another UDP address than its server's, as
 /// if none had come: an attacker who can't send from the server's address has nothing received,
-/// whatever the attacker guesses. Where the system's socket is gone, it reports why. It asks the
-/// inner socket exactly what it is asked.
+/// whatever the attacker guesses. Where the system's socket is gone, it reports why. It notes in the
+/// client's wait how each send went. It asks the inner socket exactly what it is asked.
 #[derive(Drop)]
 pub struct PeerSocket<'a, R, S = UdpSocket> {
     rt: &'a R,
+    waiting: &'a Waiting<'a, R>,
     inner: S,
     /// The UDP address that is heard alone; where there is none, anybody is heard.
     heard: Option<SocketAddrV4>,
 }
 
 impl<'a, R: Eprint, S> PeerSocket<'a, R, S> {
-    pub fn new(rt: &'a R, inner: S, heard: Option<SocketAddrV4>) -> Self {
-        PeerSocket { rt, inner, heard }
+    pub fn new(
+        rt: &'a R,
+        waiting: &'a Waiting<'a, R>,
+        inner: S,
+        heard: Option<SocketAddrV4>,
+    ) -> Self {
+        PeerSocket {
+            rt,
+            waiting,
+            inner,
+            heard,
+        }
     }
 
     /// Whether a datagram from there is taken.
@@ -53,8 +65,12 @@ impl<R: Eprint, S: DatagramSocket> DatagramSocket for PeerSocket<'_, R, S> {
 
     fn send_datagram(&mut self, bytes: &[u8], to: SocketAddrV4) -> io::Result<()> {
         let sent = self.inner.send_datagram(bytes, to);
-        if let Err(error) = &sent {
-            self.report("sending", error);
+        match &sent {
+            Ok(()) => self.waiting.sent(to, None),
+            Err(error) => {
+                self.report("sending", error);
+                self.waiting.sent(to, Some(*error));
+            }
         }
         sent
     }

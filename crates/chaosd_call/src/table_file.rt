@@ -91,10 +91,13 @@ fn value_of<R: AllocGlobal + Env>(rt: &R, name: &str) -> Option<String> {
     }
 }
 
-/// The name of the user's own table, where the user has a folder for such files.
+/// The name of the user's own table, where the user has a folder for such files. As the XDG base
+/// directory specification has it, a relative path in the variable counts as none.
 fn user_table<R: AllocGlobal + Env>(rt: &R) -> Result<Option<String>, AllocError> {
     if let Some(folder) = value_of(rt, "XDG_CONFIG_HOME") {
-        return Ok(Some(format!(in rt.alloc(); "{}/chaosd/hosts", folder.as_str())?));
+        if folder.as_str().starts_with('/') {
+            return Ok(Some(format!(in rt.alloc(); "{}/chaosd/hosts", folder.as_str())?));
+        }
     }
     match value_of(rt, "HOME") {
         Some(home) => Ok(Some(format!(in rt.alloc(); "{}/.config/chaosd/hosts", home.as_str())?)),

@@ -1,12 +1,17 @@
 //! A client that waits for a server, and what it reports of that.
-use chaos_link::{DatagramSocket, LINK_ROOM, Peer};
+ghost use Rattle.std.specs.Prelude.{◌≡◌};
+ghost use Rattle.chaos_link.specs.SocketFault.{is_fault};
+ghost use Rattle.chaosd_call.specs.Hearing.{IsKnownAt};
+ghost use Rattle.chaosd_call.specs.Sending.{fault_of_send};
+
+use chaos_link::{DatagramSocket, LINK_ROOM, Peer, SocketCall, SocketFault};
 use file_copy::NoReply;
 use std::cell::Cell;
-use std::fmt::Display;
-use std::io;
+use std::fmt::{Display, Formatter};
 use std::io::ErrorKind;
 use std::net::{Ipv4Addr, Net, SocketAddr, SocketAddrV4, UdpSocket};
 use std::time::{Clock, Duration};
+use std::{fmt, io};
 
 /// After so many milliseconds without an answer a client reports that it waits for the server.
 const REPORTED_AFTER: u64 = 1_000;
@@ -67,6 +72,70 @@ pub struct Waiting<'a, R> {
     has_key: bool,
     probe: Option<UdpSocket>,
     wait: Cell<Wait>,
+    /// The fault by which the last send failed, where it did.
+    unsent: Cell<Option<SocketFault>>,
+}
+
+/// Where a client is, as its server has to know. A client that the system gave any of its UDP
+/// addresses has none to name.
+fn known_place(socket: SocketAddrV4) -> Option<SocketAddrV4>
+    // The result is the client's UDP address, except where that is the unspecified address.
+    ensures { IsKnownAt socket result }
+{
+    if socket.ip().is_unspecified() {
+        None
+    } else {
+        Some(socket)
+    }
+}
+
+/// The host that a client is, and where it is, as the question about its server names them.
+#[derive(Clone, Copy)]
+struct KnownHost(Peer);
+
+impl Display for KnownHost {
+    fn fmt<W: fmt::Write>(&self, f: &mut Formatter<W>) -> fmt::Result {
+        let Peer { address, socket } = self.0;
+        match known_place(socket) {
+            Some(place) => write!(f, "host {address:o} at {place}"),
+            None => write!(f, "host {address:o}"),
+        }
+    }
+}
+
+/// Whether an error of a send says more than that the send would have to wait.
+fn is_fault(kind: ErrorKind) -> bool
+    ensures { result ≡ is_fault kind }
+{
+    match kind {
+        ErrorKind::WouldBlock
+        | ErrorKind::TimedOut
+        | ErrorKind::Interrupted
+        | ErrorKind::ConnectionRefused => false,
+        _ => true,
+    }
+}
+
+/// The fault by which the last send failed, once one to this UDP address failed by this error, or
+/// by none.
+fn fault_of_send(
+    to: SocketAddrV4,
+    error: Option<io::Error>,
+    before: Option<SocketFault>,
+) -> Option<SocketFault>
+    // A send that didn't fail leaves no fault. A send that failed by a fault leaves that one, and
+    // another failure the fault of before.
+    ensures { result ≡ fault_of_send to error before }
+{
+    match error {
+        None => None,
+        Some(error) if is_fault(error.kind()) => Some(SocketFault {
+            call: SocketCall::Send(to),
+            error,
+            earlier: 0,
+        }),
+        Some(_) => before,
+    }
 }
 
 /// A socket that is connected to this UDP address, where one can be had.
@@ -91,6 +160,7 @@ impl<'a, R: Eprint> Waiting<'a, R> {
             has_key,
             probe: probe_of(rt, server.socket).ok(),
             wait: Cell::new(Wait::BEGUN),
+            unsent: Cell::new(None),
         }
     }
 
@@ -113,14 +183,19 @@ impl<'a, R: Eprint> Waiting<'a, R> {
         self.wait.get().is_over
     }
 
-    /// Reports behind this lead why the server didn't answer a client, and what to look at.
+    /// A datagram was sent to this UDP address, or that failed by this error.
+    pub fn sent(&self, to: SocketAddrV4, error: Option<io::Error>) {
+        self.unsent.set(fault_of_send(to, error, self.unsent.get()));
+    }
+
+    /// Reports behind this lead why the server didn't answer a client, and what to look at: the
+    /// fault by which the last send failed, if it did.
     pub fn report_no_reply<D: Display>(
         &self,
         client: Peer,
         lead: &D,
         why: &NoReply,
     ) -> io::Result<()> {
-        let Peer { address, socket } = client;
         let server = self.server.socket;
         if self.is_over() {
             return eprintln!(self.rt; "chaosd: {lead}no server listens at {server}");
@@ -128,9 +203,13 @@ impl<'a, R: Eprint> Waiting<'a, R> {
         if why.is_open || why.end.is_some() {
             return eprintln!(self.rt; "chaosd: {lead}{why}");
         }
+        if let Some(fault) = self.unsent.get() {
+            return eprintln!(self.rt; "chaosd: {lead}{why}: {fault}");
+        }
+        let client = KnownHost(client);
         let hint = if self.has_key { WITH_KEY } else { WITHOUT_KEY };
         eprintln!(self.rt;
-            "chaosd: {lead}{why}: does a server run at {server}, and does it have {address:o}={socket} as a PEER{hint}"
+            "chaosd: {lead}{why}: does a server run at {server}, and does its hosts table (or a PEER) have {client}{hint}"
         )
     }
 

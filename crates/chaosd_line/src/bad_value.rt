@@ -45,6 +45,17 @@ pub(crate) const HOST_PATH_FORM: &str = "a host's name, a colon and a path, such
 pub(crate) const BARE_HOST_FORM: &str =
     "a host's name and a colon at the end of the line, such as lispm:";
 
+/// The form of the word that names the host of `put` where a name stands behind its colon.
+pub(crate) const KEPT_NAME_FORM: &str =
+    "nothing after the colon. put keeps a file's name, unless --as PATH gives another";
+
+/// The form of the word that names a host where the word was to be an address.
+pub(crate) const NO_ADDRESS_FORM: &str =
+    "a host's name. To give addresses, begin the line with ADDRESS and UDP";
+
+/// The form of the new name of a file where the word names a host too.
+pub(crate) const STAYS_FORM: &str = "a path without a host, because a file stays on its host";
+
 /// The form of words that name files of one host.
 pub(crate) const ONE_HOST_FORM: &str = "one host in the whole line";
 
@@ -85,7 +96,8 @@ pub(crate) const TABLE_KEYS: &str =
     "can't be used with a hosts table: write key=FILE into the table, on the line of each host that has the key";
 
 /// Why a local file that is no folder doesn't go with the other words.
-pub(crate) const ONE_PATH: &str = "takes one PATH alone, unless it ends with /";
+pub(crate) const ONE_PATH: &str =
+    "names one file for several PATHs: the name of a folder ends with /, such as DIR/";
 
 /// Why a name to put a file under doesn't go with the other words.
 pub(crate) const ONE_LOCAL: &str = "takes one LOCAL alone";

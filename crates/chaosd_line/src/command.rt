@@ -101,6 +101,11 @@ fn sub_called(name: &str) -> Option<&'static Sub> {
     None
 }
 
+/// The names, in its usage, of the words that the subcommand of this name needs.
+pub(crate) fn needs_of(name: &str) -> Option<&'static str> {
+    sub_called(name)?.needs
+}
+
 /// The command whose usage helps with a bad word: the subcommand of this name, or else the whole.
 pub(crate) fn command_of<'a>(alloc: Global, name: Option<&str>) -> Result<Command<'a>, AllocError> {
     match sub_called(name.unwrap_or("")) {

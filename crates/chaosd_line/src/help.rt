@@ -3,7 +3,7 @@
 
 /// The program's version, and where the program's stamp is: a program can't contain the sum of its
 /// own sources.
-pub(crate) const VERSION: &str = "0.1.0
+pub(crate) const VERSION: &str = "0.2.0
 chaosd.stamp, beside the program or in ../share/chaosd, says how it was built.
 Without that file, assume that the program is not proved.";
 

@@ -1,12 +1,12 @@
 //! The reading of a command line.
 ghost use Rattle.std.specs.Prelude.{◌≡◌, ◌⊎◌, map, IfOk, Some};
 ghost use Rattle.clap.specs.Values.{kind_of};
-ghost use Rattle.clap.specs.declared.error.kind.ErrorKind.TheVariants.{OutOfMemory, ValueValidation};
+ghost use Rattle.clap.specs.declared.error.kind.ErrorKind.TheVariants.{MissingRequiredArgument, OutOfMemory, ValueValidation};
 ghost use Rattle.chaosd_line.specs.CommandLine.{chaosd};
 ghost use Rattle.chaosd_line.specs.Fault.{FailsFor, IsReported, RefusesFor};
 ghost use Rattle.chaosd_line.specs.Lines.{asked_line, line_view};
 
-use crate::command::{command, command_of};
+use crate::command::{command, command_of, needs_of};
 use crate::fault::LineFault;
 use crate::line::Line;
 use crate::line_problem::LineProblem;
@@ -46,6 +46,38 @@ fn report_of(alloc: Global, problem: LineProblem<'_>, subcommand: Option<&str>) 
         LineProblem::Bad(bad) => reported(alloc, bad.message(alloc), subcommand),
         LineProblem::Clash(files) => reported(alloc, files.message(alloc), subcommand),
         LineProblem::NoMemory => Error::from(AllocError),
+    }
+}
+
+/// The error that the line of a subcommand needs these words.
+fn missing(alloc: Global, needs: &str, subcommand: &str) -> Result<Error, AllocError>
+    ensures { IfOk result (λ error. kind_of error ≡ MissingRequiredArgument) }
+{
+    let text = format!(in alloc; "the line needs {needs}")?;
+    command_of(alloc, Some(subcommand))?.error(ErrorKind::MissingRequiredArgument, text.as_str())
+}
+
+/// clap's error about the words of a subcommand. If all words are missing, the text has their names
+/// in the usage: clap has one name for all.
+fn named(alloc: Global, error: Error, subcommand: &str) -> Error
+    ensures { (kind_of result ≡ kind_of error) ⊎ (kind_of result ≡ OutOfMemory) }
+{
+    match (error.kind(), needs_of(subcommand)) {
+        (ErrorKind::MissingRequiredArgument, Some(needs)) => {
+            match missing(alloc, needs, subcommand) {
+                Ok(error) => error,
+                Err(error) => Error::from(error),
+            }
+        }
+        _ => error,
+    }
+}
+
+/// The first word, which is the subcommand if clap finds a mistake after it.
+fn first_word<S: AsStr>(words: &[S]) -> &str {
+    match words.first() {
+        Some(word) => word.as_str(),
+        None => "",
     }
 }
 
@@ -93,7 +125,10 @@ pub fn parse_line<'a, S: AsStr>(alloc: Global, words: &'a [S]) -> Result<Line<'a
     ensures kinds { FailsFor (map S.text words.now) result }
 {
     let mut command = command(alloc)?;
-    let matches = command.try_get_matches_from_mut(words)?;
+    let matches = match command.try_get_matches_from_mut(words) {
+        Ok(matches) => matches,
+        Err(error) => return Err(named(alloc, error, first_word(words))),
+    };
     match matches.subcommand() {
         Some((name, values)) => match line_named(alloc, name, values) {
             Ok(line) => Ok(line),

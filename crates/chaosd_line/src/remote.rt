@@ -9,6 +9,7 @@ ghost use Rattle.chaosd_line.specs.Remote.{file_paths, file_words, first_host, h
 
 use crate::bad_value::{
     BadValue, HOST_PATH_FORM, ONE_HOST_FORM, ONE_PLACE, PATH_FORM, PATH_ONCE_FORM, PATTERN_FORM,
+    Problem, STAYS_FORM,
 };
 use crate::files::{are_paths, bad_path};
 use crate::host_names::{has_colon, host_in, is_at, part_in};
@@ -164,6 +165,16 @@ fn bad_paths<'a>(words: &[&'a str]) -> BadValue<'a>
     bad_path_at(bad_path(words), "PATH")
 }
 
+/// The same mistake in a line of these words. In the short form, an empty path is missing behind
+/// its host.
+fn missing_path<'a>(words: &[&'a str], bad: BadValue<'a>) -> BadValue<'a> {
+    if bad.text.is_empty() && !is_long(words) {
+        BadValue::missing(bad.place, "behind HOST:")
+    } else {
+        bad
+    }
+}
+
 /// The paths of the server's files: legal paths of FILE, each once.
 #[tactic(auto, unfolding(crate::specs::Remote::file_paths))]
 pub(crate) fn file_paths<'a>(
@@ -177,7 +188,7 @@ pub(crate) fn file_paths<'a>(
     if are_paths(paths.as_slice()) {
         Ok(paths)
     } else {
-        Err(LineProblem::Bad(bad_paths(paths.as_slice())))
+        Err(LineProblem::Bad(missing_path(words, bad_paths(paths.as_slice()))))
     }
 }
 
@@ -241,7 +252,26 @@ pub(crate) fn old_path<'a>(words: &[&'a str]) -> Result<&'a str, BadValue<'a>>
     if Word::Path.takes(path.as_bytes()) {
         Ok(path)
     } else {
-        Err(bad_path_at(path, OLD.name))
+        Err(missing_path(words, bad_path_at(path, OLD.name)))
+    }
+}
+
+/// What is wrong with the word of a new path. A word with a colon was to name a host too.
+fn bad_new_path<'a>(bad: BadValue<'a>) -> BadValue<'a> {
+    match bad.problem {
+        Problem::Form(_) if has_colon(bad.text) => BadValue::new(bad.text, bad.place, STAYS_FORM),
+        _ => bad,
+    }
+}
+
+/// The last word, as a new path.
+fn last_path<'a>(words: &[&'a str]) -> Result<&'a str, BadValue<'a>>
+    ensures { option_map (λ t. t.now) (result_ok result) ≡ new_path (map (λ t. t.now) words.now) }
+{
+    if is_long(words) {
+        last_text_at(words, NEW, Word::Path)
+    } else {
+        last_text_at(words, NEW_SECOND, Word::Path)
     }
 }
 
@@ -249,10 +279,9 @@ pub(crate) fn old_path<'a>(words: &[&'a str]) -> Result<&'a str, BadValue<'a>>
 pub(crate) fn new_path<'a>(words: &[&'a str]) -> Result<&'a str, BadValue<'a>>
     ensures { option_map (λ t. t.now) (result_ok result) ≡ new_path (map (λ t. t.now) words.now) }
 {
-    if is_long(words) {
-        last_text_at(words, NEW, Word::Path)
-    } else {
-        last_text_at(words, NEW_SECOND, Word::Path)
+    match last_path(words) {
+        Ok(path) => Ok(path),
+        Err(bad) => Err(bad_new_path(bad)),
     }
 }
 

@@ -43,6 +43,8 @@ pub(crate) struct Sub {
     pub(crate) example: Option<&'static str>,
     /// Its usage, where clap's own doesn't say enough.
     pub(crate) usage: Option<&'static str>,
+    /// The names, in its usage, of the words that it needs in the short form.
+    pub(crate) needs: Option<&'static str>,
     /// Its words.
     pub(crate) words: &'static [Argument<'static>],
 }
@@ -122,6 +124,7 @@ static SHOW: Sub = Sub {
     about: help::SHOW,
     example: None,
     usage: None,
+    needs: None,
     words: &[
         Argument("file", Arity::Flag, help::SHOW_FILE),
         Argument("chudp", Arity::Flag, help::SHOW_CHUDP),
@@ -134,6 +137,7 @@ static LAB: Sub = Sub {
     about: help::LAB,
     example: None,
     usage: None,
+    needs: None,
     words: &[],
 };
 
@@ -143,6 +147,7 @@ static FILELAB: Sub = Sub {
     about: help::FILELAB,
     example: None,
     usage: None,
+    needs: None,
     words: &[],
 };
 
@@ -152,6 +157,7 @@ static LOOP: Sub = Sub {
     about: help::LOOP,
     example: None,
     usage: None,
+    needs: None,
     words: &[CARRIAGE],
 };
 
@@ -161,6 +167,7 @@ static SERVE: Sub = Sub {
     about: help::SERVE,
     example: Some(help::SERVE_EXAMPLE),
     usage: Some(help::SERVE_USAGE),
+    needs: Some("FOLDER"),
     words: &[
         Argument("turns", Arity::Default("N", "1000000000"), help::TURNS),
         CARRIAGE,
@@ -185,6 +192,7 @@ static ASK: Sub = Sub {
     about: help::ASK,
     example: Some(help::ASK_EXAMPLE),
     usage: Some(help::ASK_USAGE),
+    needs: Some("HOST"),
     words: &[
         CARRIAGE,
         CHUDP,
@@ -212,6 +220,7 @@ static GET: Sub = Sub {
     about: help::GET,
     example: Some(help::GET_EXAMPLE),
     usage: Some(help::GET_USAGE),
+    needs: Some("HOST:PATH"),
     words: call_words!(COPY_VERBOSE, [TEXT, OUTPUT], help::GET_WORDS),
 };
 
@@ -221,6 +230,7 @@ static PUT: Sub = Sub {
     about: help::PUT,
     example: Some(help::PUT_EXAMPLE),
     usage: Some(help::PUT_USAGE),
+    needs: Some("LOCAL and HOST:"),
     words: call_words!(
         COPY_VERBOSE,
         [TEXT, RENAMING, AS, RECURSIVE],
@@ -234,6 +244,7 @@ static DELETE: Sub = Sub {
     about: help::DELETE,
     example: Some(help::DELETE_EXAMPLE),
     usage: Some(help::DELETE_USAGE),
+    needs: Some("HOST:PATH"),
     words: call_words!(VERBOSE, [], help::DELETE_WORDS),
 };
 
@@ -243,6 +254,7 @@ static RENAME: Sub = Sub {
     about: help::RENAME,
     example: Some(help::RENAME_EXAMPLE),
     usage: Some(help::RENAME_USAGE),
+    needs: Some("HOST:OLD and NEW"),
     words: call_words!(VERBOSE, [], help::RENAME_WORDS),
 };
 

@@ -3,7 +3,9 @@ ghost use Rattle.std.specs.Prelude.{◌≡◌, option_map, map};
 ghost use Rattle.std.specs.Result.{result_ok};
 ghost use Rattle.chaosd_line.specs.Targets.{ask_ends, ask_target, ask_view, bare_host_of, call_target, ends_of, host_at, host_of, place_view, serve_ends, serve_folder, serve_place, target_view};
 
-use crate::bad_value::{BARE_HOST_FORM, BadValue, HOST_PATH_FORM, OTHER_FORM};
+use crate::bad_value::{
+    BARE_HOST_FORM, BadValue, HOST_PATH_FORM, KEPT_NAME_FORM, NO_ADDRESS_FORM, OTHER_FORM,
+};
 use crate::ends::{AskEnds, AskTarget, Ends, ServeEnds, ServePlace, Target};
 use crate::followed::{asked_peers, known_hosts};
 use crate::form::Form;
@@ -78,9 +80,12 @@ fn is_socket(text: &str) -> bool {
     Socket.value_of(text).is_some()
 }
 
-/// What is wrong with the words of a line in the short form. Where the second word is a UDP
-/// address, the line was to be in the long form, and its first word is bad.
+/// What is wrong with the words of a line in the short form. Where one of the first two words is a
+/// UDP address, the line was to be in the long form: its ADDRESS is missing or bad.
 fn short_mistake<'a>(words: &[&'a str], bad: BadValue<'a>) -> BadValue<'a> {
+    if is_socket(word_at(words, 0).unwrap_or("")) {
+        return BadValue::missing(ADDRESS.name, ADDRESS.beside);
+    }
     if is_socket(word_at(words, 1).unwrap_or("")) {
         if let Err(bad_address) = value_at(words, ADDRESS, &Address) {
             return bad_address;
@@ -149,11 +154,38 @@ fn host_at<'a>(words: &[&'a str], place: HostWord) -> Option<&'a str>
     }
 }
 
+/// Whether a word was to be an address: a host's name has no `=`.
+fn is_address(word: &str) -> bool {
+    host_in(word).contains('=') || is_socket(word)
+}
+
+/// What is wrong with the first word of `get`, `delete` or `rename`, which names no host.
+fn bad_first<'a>(word: &'a str) -> BadValue<'a> {
+    let form = if is_address(word) {
+        NO_ADDRESS_FORM
+    } else {
+        HOST_PATH_FORM
+    };
+    BadValue::new(word, "HOST:PATH", form)
+}
+
+/// What is wrong with the last word of `put`, which names no host alone.
+fn bad_last<'a>(word: &'a str) -> BadValue<'a> {
+    let form = if is_address(word) {
+        NO_ADDRESS_FORM
+    } else if host_of(word).is_some() {
+        KEPT_NAME_FORM
+    } else {
+        BARE_HOST_FORM
+    };
+    BadValue::new(word, "HOST:", form)
+}
+
 /// What is wrong with a line in the short form that names no host.
 fn no_host<'a>(words: &[&'a str], place: HostWord) -> BadValue<'a> {
     let bad = match (place, word_at(words, 0), last_word(words)) {
-        (HostWord::First, Some(word), _) => BadValue::new(word, "HOST:PATH", HOST_PATH_FORM),
-        (HostWord::Last, _, Some(word)) => BadValue::new(word, "HOST:", BARE_HOST_FORM),
+        (HostWord::First, Some(word), _) => bad_first(word),
+        (HostWord::Last, _, Some(word)) => bad_last(word),
         _ => BadValue::missing("HOST:PATH", "in front of LOCAL"),
     };
     short_mistake(words, bad)

@@ -1,6 +1,7 @@
 -- What is wrong with a server's peers.
-use Rattle.std.specs.Prelude.{◌≡◌, ◌≢◌, ℕ, Option, Some, None}
+use Rattle.std.specs.Prelude.{◌==◌, ◌≡◌, ◌≢◌, ◌&&◌, ℕ, Bool, not, List, length, Option, Some, None, is_some, if◌then◌else◌}
 use Rattle.std.specs.declared.net.socket_addr.SocketAddrV4.{SocketAddrV4}
+use Rattle.chaos_link.specs.Peers.{PeersView}
 use Rattle.chaos_link.specs.declared.peers.Peer.{Peer}
 use Rattle.chaosd_log.specs.declared.warning.Warning.{Warning}
 use Rattle.chaosd_log.specs.declared.warning.Warning.TheVariants.{NoPeers, OwnAddress, OwnBridge, OwnSocket}
@@ -19,3 +20,10 @@ abbrev pub WarnsOfBridge : Option SocketAddrV4 → SocketAddrV4 → Option Warni
 WarnsOfBridge bridge socket (Some OwnBridge) = bridge ≡ Some socket
 WarnsOfBridge bridge socket (Some _) = ⊥
 WarnsOfBridge bridge socket None = bridge ≢ Some socket
+
+-- no peer, no bridge, and no host that is followed
+abbrev pub answers_nobody : PeersView → List ℕ → Bool
+answers_nobody peers followed = (length peers.hosts == 0) && (not (is_some peers.bridge) && (length followed == 0))
+
+abbrev pub warning_of_nobody : PeersView → List ℕ → Option Warning
+warning_of_nobody peers followed = if answers_nobody peers followed then Some NoPeers else None

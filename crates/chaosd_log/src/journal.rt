@@ -1,9 +1,10 @@
 //! Where the lines of a log are written.
+use crate::heard::Heard;
 use crate::level::{Level, Topic};
 use crate::limiter::Limiter;
 use crate::lines::LogLines;
 use crate::peer_sources::PeerSources;
-use crate::warning::{Named, Warning, bridge_warning_of, warning_of};
+use crate::warning::{Warning, bridge_warning_of, nobody_warning_of, warning_of};
 use chaos_file::PrintedName;
 use chaos_link::{Peer, Peers};
 use std::fmt::Display;
@@ -97,17 +98,15 @@ impl<'a, R: Clock + Eprint> Journal<'a, R> {
         }
     }
 
-    /// Logs that the server begins, which hosts it answers, and what is wrong with these peers.
-    pub fn begin(&mut self, address: u16, socket: SocketAddrV4, folder: &str, peers: &Peers) {
-        let named = Named(peers);
+    /// Logs that the server begins, whom it hears, and what is wrong with its peers.
+    pub fn begin(&mut self, address: u16, socket: SocketAddrV4, folder: &str, heard: &Heard<'_>) {
         let folder = PrintedName(folder);
         let _ = self.log(
             Topic::Service,
-            &format_args!("host {address:o} serves {folder} at {socket}{named}"),
+            &format_args!("host {address:o} serves {folder} at {socket}{heard}"),
         );
-        if peers.hosts().is_empty() && peers.bridge().is_none() {
-            let _ = self.log(Topic::Fault, &Warning::NoPeers);
-        }
+        let peers = heard.peers;
+        self.warn(nobody_warning_of(peers, heard.followed));
         for peer in peers.hosts() {
             self.warn(warning_of(peer, address, socket));
         }

@@ -8,6 +8,7 @@
 #![tactic(auto)]
 
 mod change;
+mod heard;
 mod journal;
 mod level;
 mod limiter;
@@ -20,6 +21,7 @@ mod server_log;
 mod warning;
 
 pub use change::{ChangeText, topic_of};
+pub use heard::Heard;
 pub use journal::Journal;
 pub use level::{Level, TOPICS, Topic};
 pub use limiter::{Limiter, Tally};
@@ -27,4 +29,4 @@ pub use lines::LogLines;
 pub use peer_sources::{PeerSources, SourceReport};
 pub use refusal_log::RefusalLog;
 pub use refusals::{MAX_REFUSED, QUIET_SECONDS, RefusalReport, RefusalTally, Refusals, Refused};
-pub use warning::{Warning, bridge_warning_of, warning_of};
+pub use warning::{Warning, bridge_warning_of, nobody_warning_of, warning_of};

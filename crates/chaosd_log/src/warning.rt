@@ -1,6 +1,6 @@
 //! What is wrong with a server's peers.
 ghost use Rattle.std.specs.Prelude.{◌≡◌, Some};
-ghost use Rattle.chaosd_log.specs.Warning.{WarnsOf, WarnsOfBridge};
+ghost use Rattle.chaosd_log.specs.Warning.{WarnsOf, WarnsOfBridge, warning_of_nobody};
 
 use chaos_link::{Peer, Peers};
 use std::fmt;
@@ -11,7 +11,7 @@ use thiserror::Error;
 /// Why a server can't answer somebody.
 #[derive(Clone, Copy, Debug, PartialEq, Eq, Error)]
 pub enum Warning {
-    /// It has no peer.
+    /// It has no peer, and follows no host.
     #[error("no PEER is given, so nobody is answered")]
     NoPeers,
     /// A peer has its Chaosnet address.
@@ -52,20 +52,14 @@ pub fn bridge_warning_of(bridge: Option<SocketAddrV4>, socket: SocketAddrV4) -> 
     }
 }
 
-/// The peers and the bridge as a command line has them, a space in front of each.
-#[derive(Drop)]
-pub(crate) struct Named<'a>(pub(crate) &'a Peers);
-
-impl Display for Named<'_> {
-    fn fmt<W: fmt::Write>(&self, f: &mut Formatter<W>) -> fmt::Result {
-        let mut front = " to ";
-        for Peer { address, socket } in self.0.hosts() {
-            write!(f, "{front}{address:o}={socket}")?;
-            front = " ";
-        }
-        match self.0.bridge() {
-            Some(socket) => write!(f, "{front}*={socket}"),
-            None => Ok(()),
-        }
+/// That a server with these peers, which follows these hosts, answers nobody, if that is so.
+pub fn nobody_warning_of(peers: &Peers, followed: &[u16]) -> Option<Warning>
+    // There is a warning exactly where there is no peer, no bridge and no host that is followed.
+    ensures { result ≡ warning_of_nobody peers.now followed.now }
+{
+    if peers.hosts().is_empty() && peers.bridge().is_none() && followed.is_empty() {
+        Some(Warning::NoPeers)
+    } else {
+        None
     }
 }

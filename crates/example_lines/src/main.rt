@@ -98,8 +98,8 @@ impl Session {
         matches!(host.front(id), Ok(Some(_))) && matches!(host.can_write(id), Ok(true))
     }
 
-    /// Replies to the item in front, if the client's window takes a reply. A reply is written
-    /// before what it replies to is consumed.
+    /// Reads the item in front, and replies to it, if the client's window takes a reply. The item is
+    /// read first, so the reply acknowledges it.
     fn talk(&mut self, host: &mut Host, now: u64, out: &mut Outbox) -> Result<(), CallFault>
         ensures { out.new.cap ≡ out.old.cap }
     {
@@ -111,17 +111,13 @@ impl Session {
                 let seconds = now.saturating_sub(self.since) / 1_000;
                 let mut begins_line = self.begins_line;
                 let (text, taken) = reply_to(bytes, seconds, &mut begins_line);
-                let written = self.stream.put_bytes(host, text.as_slice(), now, out)?;
-                if written == text.len() && out.room() > 0 {
-                    self.begins_line = begins_line;
-                    self.stream.consume(host, taken, out)?;
-                }
+                self.begins_line = begins_line;
+                self.stream.consume(host, taken, out)?;
+                let _all = self.stream.put_bytes(host, text.as_slice(), now, out)?;
             }
             Peek::Eof => {
+                self.stream.consume(host, 0, out)?;
                 self.stream.put_eof(host, now, out)?;
-                if out.room() > 0 {
-                    self.stream.consume(host, 0, out)?;
-                }
             }
             Peek::Nothing | Peek::Ended => {}
         }

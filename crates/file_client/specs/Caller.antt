@@ -16,9 +16,10 @@ use Rattle.chaos_host.specs.Calls.{HostReply, host_end}
 use Rattle.chaos_host.specs.Connect.{ConnectAnswer, host_connect}
 use Rattle.chaos_host.specs.View.{HostView, host_look, new_host}
 use Rattle.chaos_host.specs.declared.fault.CallFault.{CallFault}
+use Rattle.chaos_node.specs.Passing.{after_passing}
 use Rattle.chaos_node.specs.declared.limits.TheConstants.{TURN_ROOM}
 use Rattle.file_client.specs.declared.route.Route.{Route}
-use Rattle.file_client.specs.Calls.{after_passing, call_by, data_read, is_wrote}
+use Rattle.file_client.specs.Calls.{call_by, data_read, is_wrote}
 use Rattle.file_client.specs.Pace.{Pace}
 use Rattle.file_client.specs.Turn.{TakesTurn}
 

@@ -1,17 +1,16 @@
 -- What a client's calls make of its host.
-use Rattle.std.specs.Prelude.{zero, suc, ℕ, Bool, true, false, if◌then◌else◌, List, [], codes, Option, Some, None, Result, Ok, Err}
+use Rattle.std.specs.Prelude.{ℕ, Bool, true, false, if◌then◌else◌, List, Option, Some, None, Result, Ok, Err}
 use Rattle.chaos_packet.specs.Item.{ItemView}
 use Rattle.chaos_packet.specs.Opcode.{is_data}
 use Rattle.chaos_conn.specs.State.{is_ended}
 use Rattle.chaos_conn.specs.declared.answers.ReadDone.TheVariants as done
 use Rattle.chaos_conn.specs.declared.answers.ReadEnd.TheVariants as gave
 use Rattle.chaos_conn.specs.declared.state.State.{State}
-use Rattle.chaos_conn.specs.Act.{Call, Close, Finished, Gave, Wrote}
+use Rattle.chaos_conn.specs.Act.{Call, Finished, Gave, Wrote}
 use Rattle.chaos_host.specs.declared.fault.CallFault.{CallFault}
 use Rattle.chaos_host.specs.declared.fault.CallFault.TheVariants.{NoSuchConnection}
 use Rattle.chaos_host.specs.Acted.{HostActed, no_effect}
-use Rattle.chaos_host.specs.Calls.{HostReply, host_call, host_end}
-use Rattle.chaos_host.specs.Connect.{ConnectAnswer, host_connect}
+use Rattle.chaos_host.specs.Calls.{HostReply, host_call}
 use Rattle.chaos_host.specs.View.{HostView, host_look}
 
 -- what a call of the connection does, where there is one
@@ -49,21 +48,3 @@ has_ended (Err fault) = true
 abbrev pub is_over : HostView → Option ℕ → Bool
 is_over h None = true
 is_over h (Some id) = has_ended (host_look h id (λ conn. conn.state))
-
--- ---- indices that are used up
-
-abbrev pub given_up : HostView → ConnectAnswer → HostView
-given_up h (Ok id) = (host_end h id (Close [])).view
-given_up h (Err fault) = h
-
-abbrev pub asked_and_given_up : HostActed ConnectAnswer → HostView
-asked_and_given_up acted = given_up acted.view acted.answer
-
--- an index was used up, by a connection that was asked for and given up at once
-abbrev pub pass_index : ℕ → HostView → HostView
-pass_index to h = asked_and_given_up (host_connect h to (codes "FILE") 0 0)
-
--- so many were
-abbrev pub after_passing : ℕ → ℕ → HostView → HostView
-after_passing to zero h = h
-after_passing to (suc count) h = pass_index to (after_passing to count h)

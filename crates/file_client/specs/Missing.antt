@@ -1,6 +1,5 @@
 -- Why no reply came, from turn to turn.
 use Rattle.std.specs.Prelude.{ℕ, ◌-◌, true, false, Option, Some, None}
-use Rattle.chaos_conn.specs.declared.answers.Delivered.{Delivered}
 use Rattle.chaos_conn.specs.declared.answers.Delivered.TheVariants.{Opened, Answered, Forwarded, Closed, Lost}
 use Rattle.chaos_host.specs.declared.answers.HostDelivered.{HostDelivered}
 use Rattle.chaos_host.specs.declared.answers.HostDelivered.TheVariants.{At}

@@ -4,10 +4,9 @@
 //! No sockets and no clock of its own, and no allocation but the host's. `client` is the client,
 //! which is a talk with a FILE server, and `client_host` its host; `calls` is what is done with the
 //! host's connection. `driver` is what drives a client, and `clock_driver` the driver by a clock,
-//! over a link. `contact` is the name that a server is asked for. `indices` passes over indices that
-//! an older process may have had; `patience` says how long a reply is waited for, and
-//! `reply_timer` why none came. `trip` measures how long a packet and its
-//! answer take.
+//! over a link. `contact` is the name that a server is asked for. `patience` says how long a reply
+//! is waited for, and `reply_timer` why none came. `trip` measures how long a packet and its answer
+//! take.
 #![tactic(auto)]
 
 mod calls;
@@ -16,7 +15,6 @@ mod client_host;
 mod clock_driver;
 mod contact;
 mod driver;
-mod indices;
 mod limits;
 mod patience;
 mod reply_timer;

@@ -4,12 +4,11 @@ ghost use Rattle.file_client.specs.Fault.{IsTurnFault};
 ghost use Rattle.file_client.specs.RoundTrip.{IsTripBetween, IsUnderWay, retransmit_of};
 
 use crate::driver::Driver;
-use crate::indices::pass_indices;
 use crate::limits::{LEAST_RETRANSMIT, MOST_RETRANSMIT, TRAIN, TRAINS_OF_A_WINDOW, TRIP_MILLIS};
 use crate::route::Route;
 use chaos_conn::{ConnConfig, Disposition};
 use chaos_host::{Host, HostDisposition};
-use chaos_node::{LastPacket, NodeFault, TURN_ROOM};
+use chaos_node::{LastPacket, NodeFault, TURN_ROOM, pass_indices};
 use chaos_packet::Outbox;
 use file_copy::MOST_TURNS;
 use std::alloc::Global;

@@ -37,15 +37,14 @@ use Rattle.chaos_link.specs.Link.{Addressed}
 use Rattle.chaos_link.specs.Loads.{EachSpelled}
 use Rattle.chaos_net.specs.Net.{IsOwn, present}
 use Rattle.chaos_node.specs.Link.{read_all, sent_by}
+use Rattle.chaos_node.specs.Passing.{after_passing, asked_for, given_up, pass_slots}
 use Rattle.chaos_net.specs.MadeTurns.{packets_sent}
 use Rattle.chaos_net.specs.System.{IsNewSeat, Seat, System, TakesCall}
 use Rattle.chaos_net.specs.System.Step.{Calls}
 use Rattle.chaos_node.proofs.Readback.{both_read, read_back}
 use Rattle.chaos_net.proofs.Behind.{at_both}
-use Rattle.file_client.specs.Calls.{after_passing, given_up, pass_index}
 use Rattle.file_client.specs.Caller.{CallerView, new_caller}
 use Rattle.file_server.specs.Server.{Server, server}
-use Rattle.file_server.specs.Passing as served
 use Rattle.file_server.specs.Service.{host_after, listening_host}
 use Rattle.file_server.specs.Sessions.{new_serving, serving_at}
 use Rattle.file_server.specs.declared.limits.TheConstants.{SERVER_CONNS}
@@ -53,7 +52,6 @@ use Rattle.file_net.specs.FileNet.{FileNet}
 use Rattle.file_end_to_end.specs.Program.{Program, program_host, program_turns}
 use Rattle.file_end_to_end.specs.System.{FileStandsFor}
 use Rattle.file_end_to_end.specs.World.{World, system_by, IsNewWorld, WorldsBegin}
-use Rattle.chaos_node.specs.Phase.{Effect}
 use Rattle.chaos_link.specs.Loads.{packets_of}
 use Rattle.chaos_net.specs.Net.NetEvent.{At}
 use Rattle.chaos_net.proofs.Made.{packets_both}
@@ -68,12 +66,12 @@ use Rattle.file_end_to_end.proofs.Systems.{Any, client_calls, more_reached, move
 
 -- ---- what is given up is spelled
 
-file_bytes : (i : ℕ) → get_or (codes "FILE") i 0 < 256
-file_bytes zero = lit< tt
-file_bytes (suc zero) = lit< tt
-file_bytes (suc (suc zero)) = lit< tt
-file_bytes (suc (suc (suc zero))) = lit< tt
-file_bytes (suc (suc (suc (suc i)))) = lit< tt
+contact_bytes : (i : ℕ) → get_or (codes "NONE") i 0 < 256
+contact_bytes zero = lit< tt
+contact_bytes (suc zero) = lit< tt
+contact_bytes (suc (suc zero)) = lit< tt
+contact_bytes (suc (suc (suc zero))) = lit< tt
+contact_bytes (suc (suc (suc (suc i)))) = lit< tt
 
 no_bytes : (i : ℕ) → get_or [] i 0 < 256
 no_bytes i = lit< tt
@@ -84,16 +82,16 @@ either_spelled : {X : Type 0} (b : Bool) (x y : Acted X) → EachSpelled x.packe
 either_spelled true x y p q = p
 either_spelled false x y p q = q
 
-request_spelled : (v : ConnView) (me : End) (peer : ℕ) → EachSpelled (act_request v me peer (codes "FILE") 0 0).packets
+request_spelled : (v : ConnView) (me : End) (peer : ℕ) → EachSpelled (act_request v me peer (codes "NONE") 0 0).packets
 request_spelled v me peer =
     let t = moment v 0 in
     let asking : ConnView = after_asking v me peer 0 t in
-    either_spelled (nat_lt MAX_DATA (length (codes "FILE"))) (refusal v fault.TooLong)
-    (if is_inactive v.state then request_between v me peer (codes "FILE") 0 t else refusal v fault.Busy) tt
-    (either_spelled (is_inactive v.state) (request_between v me peer (codes "FILE") 0 t) (refusal v fault.Busy)
+    either_spelled (nat_lt MAX_DATA (length (codes "NONE"))) (refusal v fault.TooLong)
+    (if is_inactive v.state then request_between v me peer (codes "NONE") 0 t else refusal v fault.Busy) tt
+    (either_spelled (is_inactive v.state) (request_between v me peer (codes "NONE") 0 t) (refusal v fault.Busy)
     (either_spelled (me.address == 0 || peer == 0) (refusal v fault.BadAddress)
-    (with_item asking (rfc_item (codes "FILE")) (Ok tt)) tt
-    (spelling_spells (item_packet asking (next_of asking.send) (rfc_item (codes "FILE"))) file_bytes (lit≤ tt), tt))
+    (with_item asking (rfc_item (codes "NONE")) (Ok tt)) tt
+    (spelling_spells (item_packet asking (next_of asking.send) (rfc_item (codes "NONE"))) contact_bytes (lit≤ tt), tt))
     tt)
 
 told_spelled : (b : Bool) (p : PacketView) → Spells p (spelling_of p) → EachSpelled (if b then p ∷ [] else [])
@@ -112,21 +110,21 @@ host_either : {X : Type 0} (b : Bool) (x y : HostActed X) → EachSpelled x.pack
 host_either true x y p q = p
 host_either false x y p q = q
 
-connect_spelled : (v : HostView) (to : ℕ) → EachSpelled (host_connect v to (codes "FILE") 0 0).packets
+connect_spelled : (v : HostView) (to : ℕ) → EachSpelled (host_connect v to (codes "NONE") 0 0).packets
 connect_spelled v to = by_place (free_place v.slots)
   where
-    by_slot : (place : ℕ) (o : Option Slot) → EachSpelled (connect_slot v place to (codes "FILE") 0 0 o).packets
+    by_slot : (place : ℕ) (o : Option Slot) → EachSpelled (connect_slot v place to (codes "NONE") 0 0 o).packets
     by_slot place None = tt
     by_slot place (Some slot) = request_spelled slot.conn _ to
 
-    by_place : (o : Option ℕ) → EachSpelled (connect_at v to (codes "FILE") 0 0 o).packets
+    by_place : (o : Option ℕ) → EachSpelled (connect_at v to (codes "NONE") 0 0 o).packets
     by_place None = tt
     by_place (Some place) =
-        host_either (nat_lt MAX_DATA (length (codes "FILE"))) (no_effect v (Err connecting.TooLong))
-        (if to == 0 then no_effect v (Err connecting.BadAddress) else connect_slot v place to (codes "FILE") 0 0 (slice_get v.slots place))
+        host_either (nat_lt MAX_DATA (length (codes "NONE"))) (no_effect v (Err connecting.TooLong))
+        (if to == 0 then no_effect v (Err connecting.BadAddress) else connect_slot v place to (codes "NONE") 0 0 (slice_get v.slots place))
         tt
         (host_either (to == 0) (no_effect v (Err connecting.BadAddress))
-        (connect_slot v place to (codes "FILE") 0 0 (slice_get v.slots place)) tt (by_slot place (slice_get v.slots place)))
+        (connect_slot v place to (codes "NONE") 0 0 (slice_get v.slots place)) tt (by_slot place (slice_get v.slots place)))
 
 end_spelled : (v : HostView) (id : ℕ) → EachSpelled (host_end v id (Close [])).packets
 end_spelled v id = by_slot (named_slot v.slots id)
@@ -181,25 +179,25 @@ event_passed f event own free spelled = (
   },
 )
 
-gives_up : (answer : ConnectAnswer) (f : FileNet) → Passes f (served.given_up answer (f.net B).host)
+gives_up : (answer : ConnectAnswer) (f : FileNet) → Passes f (given_up answer (f.net B).host)
 gives_up (Ok id) f = event_passed f (Ends id (Close [])) refl refl (end_spelled (f.net B).host id)
 gives_up (Err fault) f = stays_passed f
 
-slots_passed : (to k : ℕ) (f : FileNet) → Passes f (served.pass_slots to k (f.net B).host)
+slots_passed : (to k : ℕ) (f : FileNet) → Passes f (pass_slots to k (f.net B).host)
 slots_passed to zero f = stays_passed f
 slots_passed to (suc k) f =
-    let asked : HostActed ConnectAnswer = host_connect (f.net B).host to (codes "FILE") 0 0 in
-    then_passed f asked.view (λ (v : HostView). served.given_up asked.answer (served.pass_slots to k v))
-    (event_passed f (Connects to (codes "FILE") 0 0) (lit< tt) refl (connect_spelled (f.net B).host to))
+    let asked : HostActed ConnectAnswer = host_connect (f.net B).host to (codes "NONE") 0 0 in
+    then_passed f asked.view (λ (v : HostView). given_up asked.answer (pass_slots to k v))
+    (event_passed f (Connects to (codes "NONE") 0 0) (lit< tt) refl (connect_spelled (f.net B).host to))
     (λ (g : FileNet).
-    then_passed g (served.pass_slots to k (g.net B).host) (served.given_up asked.answer) (slots_passed to k g)
+    then_passed g (pass_slots to k (g.net B).host) (given_up asked.answer) (slots_passed to k g)
     (gives_up asked.answer))
 
-indices_passed : (to count : ℕ) (f : FileNet) → Passes f (served.after_passing to count (f.net B).host)
+indices_passed : (to count : ℕ) (f : FileNet) → Passes f (after_passing to count (f.net B).host)
 indices_passed to zero f = stays_passed f
 indices_passed to (suc count) f =
     let slots : ℕ = length (f.net B).host.slots in
-    then_passed f (served.after_passing to count (f.net B).host) (served.pass_slots to slots) (indices_passed to count f)
+    then_passed f (after_passing to count (f.net B).host) (pass_slots to slots) (indices_passed to count f)
     (slots_passed to slots)
 
 -- ---- the engine
@@ -259,22 +257,22 @@ module _ {S : Type 0} (contents : S → Option Files) (may_give : S → List ℕ
       (system_by (engine_with g packets) lost seat) f event st called refl tt in
       posted g packets lost r.net spelled r.stands
 
-  one_passed : (h : HostView) (to : ℕ) → Rests h → Rests (pass_index to h)
-  one_passed h to rests =
-      let acted = host_connect h to (codes "FILE") 0 0 in
-      by acted.answer
-      (own_lost h (Connects to (codes "FILE") 0 0) (lit< tt) (connect_spelled h to) rests)
+  slots_passed_by : (to k : ℕ) (h : HostView) → Rests h → Rests (pass_slots to k h)
+  slots_passed_by to zero h rests = rests
+  slots_passed_by to (suc k) h rests =
+      let asked : HostActed ConnectAnswer = asked_for to h in
+      gives asked.answer (pass_slots to k asked.view)
+      (slots_passed_by to k asked.view
+      (own_lost h (Connects to (codes "NONE") 0 0) (lit< tt) (connect_spelled h to) rests))
     where
-      by : (answer : ConnectAnswer) → Rests (host_connect h to (codes "FILE") 0 0).view
-          → Rests (given_up (host_connect h to (codes "FILE") 0 0).view answer)
-      by (Ok id) next =
-          own_lost (host_connect h to (codes "FILE") 0 0).view (Ends id (Close [])) refl
-          (end_spelled (host_connect h to (codes "FILE") 0 0).view id) next
-      by (Err fault) next = next
+      gives : (answer : ConnectAnswer) (g : HostView) → Rests g → Rests (given_up answer g)
+      gives (Ok id) g next = own_lost g (Ends id (Close [])) refl (end_spelled g id) next
+      gives (Err fault) g next = next
 
   passed : (k to : ℕ) (h : HostView) → Rests h → Rests (after_passing to k h)
   passed zero to h rests = rests
-  passed (suc k) to h rests = one_passed (after_passing to k h) to (passed k to h rests)
+  passed (suc k) to h rests =
+      slots_passed_by to (length h.slots) (after_passing to k h) (passed k to h rests)
 
   -- another engine of the same host, which has nothing that waits
   same_host : (c : CallerView) (posts : List Addressed) (f : FileNet) → c.out.packets ≡ [] → Stands c.host [] posts f
@@ -338,12 +336,12 @@ module _ {S : Type 0} (contents : S → Option Files) (may_give : S → List ℕ
       → length h.slots ≡ SERVER_CONNS → AreFree h.slots
       → FileStandsFor contents m (system_by c posts (seat_with h store)) f
       → (gone : List Addressed) × (g : FileNet)
-      × FileStandsFor contents m (system_by c posts (record (seat_with (served.after_passing to n h) store) { posts = gone })) g
+      × FileStandsFor contents m (system_by c posts (record (seat_with (after_passing to n h) store) { posts = gone })) g
   server_passed c posts h store to n f few free st =
       let host : (f.net B).host ≡ h = st.net.hosts B in
-      let behind : HostView = served.after_passing to n h in
+      let behind : HostView = after_passing to n h in
       let made : Passes f behind =
-      subst (λ (v : HostView). Passes f (served.after_passing to n v)) host (indices_passed to n f) in
+      subst (λ (v : HostView). Passes f (after_passing to n v)) host (indices_passed to n f) in
       let g : FileNet = made.0 in
       let led : IsLed IsOfNet B f g (record { host = behind; lots = made.1.lots }) = made.1.led in
       let packets : List PacketView = packets_of made.1.lots in

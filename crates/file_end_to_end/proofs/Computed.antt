@@ -20,7 +20,7 @@ use Rattle.chaos_node.specs.Arrive.{Arrival}
 use Rattle.chaos_node.specs.Phase.{Effect}
 use Rattle.file_server.specs.Arrive.{arrive_at_server}
 use Rattle.file_server.specs.Serve.{IsServedAt, ServesPlace, ServesSlots, serving_after}
-use Rattle.file_server.specs.Server.{Server, after_giving_back, server, with_host}
+use Rattle.file_server.specs.Server.{Server, after_giving_back, with_host}
 use Rattle.file_server.specs.Sessions.{Serving, serving_at, serving_of}
 use Rattle.file_server.specs.Slots.{end_phases}
 use Rattle.file_server.specs.declared.limits.TheConstants.{SILENT_MILLIS}

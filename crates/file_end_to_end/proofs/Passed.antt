@@ -1,5 +1,5 @@
 -- Slots that are free again, once a server has passed over indices.
-use Rattle.std.proofs.Common.{◌≡◌, ℕ, zero, suc, ◌+◌, ◌*◌, ◌<◌, ◌≤◌, ◌==◌, ◌&&◌, Bool, true, false, not, if◌then◌else◌, List, [], ◌∷◌, length, get_or, replicate, codes, Option, Some, None, Ok, Err, refl, sym, ap, ◌∙◌, subst, ⊎_elim, arith}
+use Rattle.std.proofs.Common.{◌≡◌, ℕ, zero, suc, ◌<◌, ◌≤◌, ◌==◌, ◌&&◌, Bool, true, false, not, if◌then◌else◌, List, [], length, get_or, replicate, codes, Option, Some, None, Err, refl, sym, ap, ◌∙◌, subst, ⊎_elim, arith}
 use Rattle.std.specs.Prelude.{slice_get, slice_set, nat_lt, unwrap_or}
 use Rattle.std.proofs.lemmas.Bool.{false≢true, cases_Bool, cond-true, cond-false, eq-eqb, eqb-true}
 use Rattle.std.proofs.lemmas.List.{length-set}
@@ -16,7 +16,7 @@ use Rattle.chaos_host.specs.declared.fault.ConnectFault.TheVariants as connectin
 use Rattle.chaos_host.specs.declared.slot.Slot.{Slot}
 use Rattle.chaos_host.proofs.Deeds.{free_there}
 use Rattle.chaos_net.proofs.Next.{set_other, set_same}
-use Rattle.file_server.specs.Passing.{after_passing, given_up, pass_slots}
+use Rattle.chaos_node.specs.Passing.{after_passing, given_up, pass_slots}
 
 -- At this place stands the same slot, if the slot was in use, and a free slot, if the slot was free.
 record IsBackAt (slots : List Slot) (place : ℕ) (a : Slot) : Type 0 where
@@ -71,9 +71,9 @@ module _ (to k : ℕ) (h : HostView) (few : length h.slots ≤ 255)
   either false x y p q = q
 
   at_slot : (place : ℕ) (slot : Slot) → free_place h.slots ≡ Some place → slice_get h.slots place ≡ Some slot
-      → Goes (connect_slot h place to (codes "FILE") 0 0 (Some slot))
+      → Goes (connect_slot h place to (codes "NONE") 0 0 (Some slot))
   at_slot place slot lowest is =
-      let new : Slot = slot_after_call slot (Request (own_end h place slot) to (codes "FILE") 0 0) in
+      let new : Slot = slot_after_call slot (Request (own_end h place slot) to (codes "NONE") 0 0) in
       let taken : HostView = with_slot h place new in
       let id : ℕ = index_of place slot in
       let last : HostView = pass_slots to k taken in
@@ -110,18 +110,18 @@ module _ (to k : ℕ) (h : HostView) (few : length h.slots ≤ 255)
       (cases_Bool (is_free new))
 
   at_place : (place : ℕ) (o : Option Slot) → free_place h.slots ≡ Some place → slice_get h.slots place ≡ o
-      → Goes (connect_slot h place to (codes "FILE") 0 0 o)
+      → Goes (connect_slot h place to (codes "NONE") 0 0 o)
   at_place place None lowest is = next h few
   at_place place (Some slot) lowest is = at_slot place slot lowest is
 
-  one_more : (o : Option ℕ) → free_place h.slots ≡ o → Goes (connect_at h to (codes "FILE") 0 0 o)
+  one_more : (o : Option ℕ) → free_place h.slots ≡ o → Goes (connect_at h to (codes "NONE") 0 0 o)
   one_more None is = next h few
   one_more (Some place) is =
-      either (nat_lt MAX_DATA (length (codes "FILE"))) (no_effect h (Err connecting.TooLong))
-      (if to == 0 then no_effect h (Err connecting.BadAddress) else connect_slot h place to (codes "FILE") 0 0 (slice_get h.slots place))
+      either (nat_lt MAX_DATA (length (codes "NONE"))) (no_effect h (Err connecting.TooLong))
+      (if to == 0 then no_effect h (Err connecting.BadAddress) else connect_slot h place to (codes "NONE") 0 0 (slice_get h.slots place))
       (next h few)
       (either (to == 0) (no_effect h (Err connecting.BadAddress))
-      (connect_slot h place to (codes "FILE") 0 0 (slice_get h.slots place)) (next h few)
+      (connect_slot h place to (codes "NONE") 0 0 (slice_get h.slots place)) (next h few)
       (at_place place (slice_get h.slots place) is refl))
 
 slots_back : (to k : ℕ) (h : HostView) → length h.slots ≤ 255 → IsBack h.slots (pass_slots to k h).slots

@@ -3,7 +3,6 @@ pub mod Fault
 pub mod InTurn
 pub mod Logged
 pub mod LoggedRun
-pub mod Passing
 pub mod Serve
 pub mod Server
 pub mod Service

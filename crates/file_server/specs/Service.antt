@@ -12,7 +12,7 @@ use Rattle.chaos_node.specs.declared.limits.TheConstants.{TURN_ROOM}
 use Rattle.chaos_node.specs.Clock.{BeginsBy, IsMoment, number_of}
 use Rattle.chaos_node.specs.declared.clock.Epoch.{Epoch}
 use Rattle.chaos_node.specs.declared.fault.NodeFault.{NodeFault}
-use Rattle.file_server.specs.Passing.{after_passing}
+use Rattle.chaos_node.specs.Passing.{after_passing}
 use Rattle.file_server.specs.Serve.{mode_of}
 use Rattle.file_server.specs.Server.{Server, server}
 use Rattle.file_server.specs.Sessions.{new_serving}

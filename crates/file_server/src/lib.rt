@@ -17,7 +17,6 @@ mod arriving;
 mod ending;
 mod limits;
 mod log;
-mod passing;
 mod phases;
 mod serve_mode;
 mod serve_run;

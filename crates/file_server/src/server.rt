@@ -3,7 +3,6 @@ ghost use Rattle.std.specs.Prelude.{◌≡◌, ◌<◌, ◌↔◌, length, IfErr
 
 use crate::limits::{SERVER_CONNS, SILENT_MILLIS};
 use crate::log::{LinkLog, Log};
-use crate::passing::pass_indices;
 use crate::phases::take_turn;
 use crate::serve_mode::ServeMode;
 use crate::sessions::Sessions;
@@ -14,7 +13,7 @@ use chaos_conn::ConnConfig;
 use chaos_file::{CONTACT, Store};
 use chaos_host::Host;
 use chaos_link::{Carriage, Link};
-use chaos_node::{Node, NodeFault, Turn, TurnEnd, begin, end_of};
+use chaos_node::{Node, NodeFault, Turn, TurnEnd, begin, end_of, pass_indices};
 use chaos_packet::PktNum;
 use std::alloc::Global;
 
@@ -39,7 +38,7 @@ impl Server {
     ghost use Rattle.file_server.specs.Sessions.{new_serving};
     ghost use Rattle.file_server.specs.declared.limits.TheConstants.{SILENT_MILLIS};
     ghost use Rattle.file_server.specs.Logged.{IsReadOf, LogsTurn};
-    ghost use Rattle.file_server.specs.Passing.{after_passing};
+    ghost use Rattle.chaos_node.specs.Passing.{after_passing};
     ghost use Rattle.file_server.specs.Serve.{mode_of};
     ghost use Rattle.file_server.specs.Service.{listening_host, service_of};
     ghost use Rattle.file_server.specs.Turn.{RunsTurn};

@@ -1,4 +1,4 @@
-use Rattle.file_server.proofs.passing.+pass_slots.Given as goal
+use Rattle.chaos_node.proofs.passing.+pass_slots.Given as goal
 
 -- fewer slots are left
 abbrev pub decreases-pass_slots : goal.decreases-pass_slots

@@ -1,7 +1,7 @@
 use Rattle.std.proofs.Common.{◌∙◌, ap, add-one}
 use Rattle.std.specs.Prelude.{ℕ}
-use Rattle.file_server.specs.Passing.{after_passing, pass_slots}
-use Rattle.file_server.proofs.passing.pass_indices.Goals as goal
+use Rattle.chaos_node.specs.Passing.{after_passing, pass_slots}
+use Rattle.chaos_node.proofs.passing.pass_indices.Goals as goal
 
 pub loop-passed-preserved : goal.loop-passed-preserved
 loop-passed-preserved c =

@@ -1,5 +1,5 @@
--- Indices that are used up before a service begins.
-use Rattle.std.specs.Prelude.{zero, suc, ℕ, List, [], length, codes, Ok, Err}
+-- Indices that are used up before a host makes its first turn.
+use Rattle.std.specs.Prelude.{zero, suc, ℕ, [], length, codes, Ok, Err}
 use Rattle.chaos_conn.specs.Act.{Close}
 use Rattle.chaos_host.specs.Acted.{HostActed}
 use Rattle.chaos_host.specs.Calls.{host_end}
@@ -8,7 +8,7 @@ use Rattle.chaos_host.specs.View.{HostView}
 
 -- the lowest free slot has a connection, which is asked for
 abbrev pub asked_for : ℕ → HostView → HostActed ConnectAnswer
-asked_for to h = host_connect h to (codes "FILE") 0 0
+asked_for to h = host_connect h to (codes "NONE") 0 0
 
 -- that connection is given up
 abbrev pub given_up : ConnectAnswer → HostView → HostView

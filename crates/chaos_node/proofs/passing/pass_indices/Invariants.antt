@@ -1,6 +1,6 @@
 use Rattle.std.proofs.Common.{◌≡◌, length}
-use Rattle.file_server.specs.Passing.{after_passing}
-use Rattle.file_server.proofs.passing.pass_indices.Given as goal
+use Rattle.chaos_node.specs.Passing.{after_passing}
+use Rattle.chaos_node.proofs.passing.pass_indices.Given as goal
 
 -- each slot has used up so many indices
 abbrev pub invariant-loop-passed : goal.invariant-loop-passed
