@@ -131,7 +131,12 @@ PROGRAM = {
         Row("long lines", "long lines", 1.1),
         Row("empty lines", "empty lines", 1.1, why="An end of a line is looked for by a call."),
         Row("four long packets a line, by version 2", "four long packets a line", 1.1),
-        Row("eight short packets a line", "eight short packets a line", 1.1),
+        Row(
+            "eight short packets a line",
+            "eight short packets a line",
+            1.1,
+            why="Each packet's place is cleared before it is filled, and copied: 7 of 43 million instructions, 2 of 37 in plain Rust.",
+        ),
     ],
     "lab": [
         Row(

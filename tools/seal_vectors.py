@@ -12,7 +12,8 @@ LAST_COUNTER = 2**64 - 1
 UP, LEARNED = "handed up", "learned"
 VERSION_1 = b"CH\x01\x00"
 
-ABOUT = f"""Host 000401 opens all datagrams of this file, one after the other. It has session {SESSION}, and keys with two hosts:
+ABOUT = f"""Host 000401 opens all datagrams of this file, one after the other. It has session {SESSION}. Its entry
+# for host 000404 has no key, so it takes packets in clear. It has keys with two hosts:
 # 000402: {KEYS[CLIENT].hex(" ").upper()}
 # 000403: {KEYS[OTHER].hex(" ").upper()}
 # A request of host 000402, in its session {FIRST}. It has heard nothing of 000401, so it names session 0, and draws a hello."""
