@@ -366,9 +366,10 @@ impl History {
         }
         self.judge_script(ended, commands.len(), count, lines.collect(), script.failed);
         let is_strict = ended.work.options.iter().any(|it| it == "--strict");
+        // A strict script ends at an error, whether it is killed behind that or not.
         let sent = match ended.status {
+            _ if is_strict && script.failed => count,
             None => commands.len(),
-            Some(_) if is_strict && script.failed => count,
             Some(_) => commands.len().min(count + 1),
         };
         for command in &commands[count..sent] {
@@ -455,6 +456,8 @@ mod tests {
         assert_eq!(noted(script(), false, None, replies, "").0.len(), 2);
         let fault = format!("{replies}T3 H ERROR STF Store fault.\n");
         assert_eq!(noted(script(), true, Some(3), &fault, ""), (vec![(Act::Put(0, 1), Response::DoneOrNot)], 0));
+        let refused = "T0  LOGIN LISPM\nT1 H OPEN 0\nT2 H ERROR MEM No memory.\n";
+        assert_eq!([Some(3), None].map(|status| noted(script(), true, status, refused, "")), [(vec![], 0), (vec![], 0)]);
         assert_eq!(noted(script(), false, Some(0), &all.replace("CLOSE 3", "CLOSE 4"), "").1, 1);
         let get = [Command::Login, Command::OpenRead("H", 1), Command::Read("H"), Command::Read("H"), Command::Close("H")];
         let read = |text: &str| noted(Task::Ask(get.to_vec()), false, Some(0), text, "");
