@@ -3,7 +3,7 @@
 
 use crate::chance::FaultKind;
 use crate::lines::address;
-use crate::net::{ip, Address, Host, Sent};
+use crate::net::{host_of, Host, Sent};
 use crate::packets::packets;
 use crate::play::{Mark, Record};
 use crate::scenario::Scenario;
@@ -41,11 +41,6 @@ impl Row {
     }
 }
 
-/// The machine that has a UDP address.
-fn host_of(address: Address) -> Host {
-    address.0.wrapping_sub(ip(0)) as Host
-}
-
 /// What stands above a machine's line of life.
 pub fn title(host: Host, hosts: usize) -> String {
     let role = match host {
@@ -64,7 +59,7 @@ fn measures(text: &str) -> bool {
 fn arrow_of(sent: &Sent) -> Option<Arrow> {
     let texts: Vec<String> = packets(&sent.bytes).into_iter().map(|packet| packet.text).collect();
     let text = texts.join(" + ");
-    let (from, to) = (host_of(sent.from), host_of(sent.to));
+    let (from, to) = (host_of(sent.from.0), host_of(sent.to.0));
     (!measures(&text)).then(|| Arrow { at: sent.at, from, to, text, arrivals: sent.arrivals.clone(), fate: sent.fate })
 }
 

@@ -12,6 +12,7 @@ mod errno;
 mod heap;
 mod history;
 mod image;
+mod indices;
 mod jobs;
 mod judge;
 mod ladder;

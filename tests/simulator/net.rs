@@ -32,7 +32,7 @@ pub const fn ip(host: Host) -> u32 {
 }
 
 /// The host that has this IPv4 address.
-fn host_of(ip_address: u32) -> Host {
+pub fn host_of(ip_address: u32) -> Host {
     ip_address.wrapping_sub(ip(0)) as Host
 }
 

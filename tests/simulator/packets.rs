@@ -6,6 +6,8 @@ pub struct Packet {
     pub kind: &'static str,
     /// Its kind, its number or status, and the text of its data.
     pub text: String,
+    /// The index of the connection at the host that sent it; 0 where that can't be read.
+    pub index: u16,
 }
 
 /// The longest text of a packet's data that is shown.
@@ -49,7 +51,7 @@ fn packet(bytes: &[u8]) -> Option<(Packet, usize)> {
         "OPN" | "EOF" => format!("{kind} {number} ack {ack}"),
         _ => format!("{kind} {}", shown(&data)),
     };
-    Some((Packet { kind, text: text.trim_end().into() }, size))
+    Some((Packet { kind, text: text.trim_end().into(), index: word(bytes, 5) }, size))
 }
 
 /// A text of FILE as its scripts write it, cut.
@@ -64,7 +66,7 @@ fn shown(data: &[u8]) -> String {
 
 /// The packets of a datagram.
 pub fn packets(datagram: &[u8]) -> Vec<Packet> {
-    let alone = |kind: &'static str| vec![Packet { kind, text: kind.into() }];
+    let alone = |kind: &'static str| vec![Packet { kind, text: kind.into(), index: 0 }];
     match datagram {
         [] => alone("empty"),
         [0x43, 0x48, 1, 0, words @ ..] => packet(words).map_or(alone("damaged"), |(packet, _)| vec![packet]),
@@ -89,7 +91,7 @@ mod tests {
     #[test]
     fn packets_are_named() {
         let request = [0x43, 0x48, 1, 0, 1, 0, 0, 4, 1, 1, 0, 0, 1, 2, 0, 1, 0xff, 0xfe, 0, 0, 0x49, 0x46, 0x45, 0x4c];
-        assert_eq!(packets(&request)[0].text, "RFC 65534 FILE");
+        assert_eq!((packets(&request)[0].text.as_str(), packets(&request)[0].index), ("RFC 65534 FILE", 1));
         let mut two = vec![0x43, 0x48, 2, 2];
         two.extend([&request[4..], &request[4..]].concat());
         assert_eq!(packets(&two).len(), 2);

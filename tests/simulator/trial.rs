@@ -2,6 +2,7 @@
 
 use crate::chance::FaultKind;
 use crate::image::Image;
+use crate::indices;
 use crate::judge::{judge, Judgement};
 use crate::play::{play, Record};
 use crate::scenario::Scenario;
@@ -102,7 +103,13 @@ impl Trial {
         };
         scenario.leave_out(&without.works, &without.kinds);
         let record = play(image, &scenario, without, is_traced);
-        let judgement = judge(&scenario, &record);
+        let mut judgement = judge(&scenario, &record);
+        if judgement.complaints.iter().any(|it| !it.wrong.is_always_wrong()) {
+            let again = (!is_traced).then(|| play(image, &scenario, without, true));
+            if indices::is_one_shared(again.as_ref().unwrap_or(&record)) {
+                judgement.complaints.retain(|it| it.wrong.is_always_wrong());
+            }
+        }
         Trial { scenario, record, judgement }
     }
 
