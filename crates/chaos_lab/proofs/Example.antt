@@ -1,15 +1,16 @@
--- The laws aren't about nothing: a run from a start in which the connection opens, and B reads what A wrote.
-use Rattle.std.proofs.Common.{◌≡◌, ℕ, [], ◌∷◌, ◌++◌, Some, refl, inl, inr, arith}
-use Rattle.std.specs.List.{All}
+-- A run from a start, in which the connection opens and B reads what A wrote.
+use Rattle.std.proofs.Common.{ℕ, zero, suc, [], ◌∷◌, ◌++◌, Some, refl, inl, inr, arith, lit<, lit≤}
+use Rattle.std.specs.List.{All, Contains}
 use Rattle.std.proofs.lemmas.List.Elements.{All-nil, All-cons}
 use Rattle.std.specs.FinSet.{empty, insert}
 use Rattle.chaos_packet.specs.Item.{ItemView}
 use Rattle.chaos_lab.specs.declared.side.Side.TheVariants.{A, B}
-use Rattle.chaos_lab.specs.Machine.{Copy, Machine, Caps, with_end, hear, take_in, read_item, read_next, Schedule, IsSent, Step, Run, start, Reached}
+use Rattle.chaos_lab.specs.Machine.{AreCaps, Copy, Machine, Caps, with_end, hear, take_in, read_item, read_next, Schedule, IsSent, Step, Run, start, Reached}
 use Rattle.chaos_lab.specs.Machine.Told.{Nothing, Acknowledges, Status}
 use Rattle.chaos_lab.specs.Machine.Kind.{Nth}
 use Rattle.chaos_lab.specs.Machine.Phase.{RfcReceived, Open}
-use Rattle.chaos_lab.specs.Machine.Event.{AcceptAt, WriteAt, ReadAt, Deliver}
+use Rattle.chaos_lab.specs.Machine.Event.{AcceptAt, WriteAt, ReadAt, TickAt, CloseAt, Deliver}
+use Rattle.chaos_lab.specs.MachineHello.{SomethingIsAsked, SomethingIsRead}
 use Rattle.chaos_lab.proofs.Lists.{contains-insert_same}
 
 abbrev item : ℕ → ItemView
@@ -91,23 +92,37 @@ m6 = with_end m5 B (read_item (Some (item 3)) m5.b)
 s6 : Step m5 (ReadAt B) m6
 s6 = (m6.b, inl (inl refl, contains-insert_same 1 (insert empty 0), refl), ([], All-nil (IsSent m6 B), refl))
 
-abbrev schedule : Schedule
-schedule = Deliver 0 ∷ AcceptAt B (item 2) ∷ Deliver 1 ∷ WriteAt A (item 3) ∷ Deliver 2 ∷ ReadAt B ∷ []
+-- ---- all
 
-run : Run m0 schedule m6
-run = (m1, s1, (m2, s2, (m3, s3, (m4, s4, (m5, s5, (m6, s6, refl))))))
+usual : AreCaps two
+usual = (lit≤ tt, lit≤ tt, lit≤ tt, lit≤ tt)
 
-pub reached : Reached m6
-reached =
-    record {
-      caps_a = two;
-      caps_b = two;
-      right_a = (omega arith, omega arith, omega arith, omega arith);
-      right_b = (omega arith, omega arith, omega arith, omega arith);
-      rfc = item 1;
-      events = schedule;
-      run = run;
-    }
+reached_by : (events : Schedule) (m : Machine) → Run m0 events m → Reached m
+reached_by events m run =
+    record { caps_a = two; caps_b = two; right_a = usual; right_b = usual; rfc = item 1; events = events; run = run }
 
-pub read_all : m6.b.read ≡ item 1 ∷ item 3 ∷ []
-read_all = refl
+pub something_is_asked : SomethingIsAsked
+something_is_asked = record { asked = m1; reached = reached_by (Deliver 0 ∷ []) m1 (m1, s1, refl); phase = refl }
+
+-- a tick of B changes nothing
+ticks : Step m5 (TickAt B) m5
+ticks = (m5.b, inl (inr refl), ([], All-nil (IsSent m5 B), refl))
+
+no_close : Contains (TickAt B ∷ []) (CloseAt B) → ⊥
+no_close (zero, few, at) = absurd (cc)
+no_close (suc i, few, at) = absurd (omega (arith, few))
+
+pub something_is_read : SomethingIsRead
+something_is_read = record {
+  written = m4;
+  came = m5;
+  read = m6;
+  reached =
+      reached_by (Deliver 0 ∷ AcceptAt B (item 2) ∷ Deliver 1 ∷ WriteAt A (item 3) ∷ []) m4
+      (m1, s1, (m2, s2, (m3, s3, (m4, s4, refl))));
+  delivers = record { number = 2; copy = written; sent = refl; sender = refl; kind = refl; open_end = refl; inside = lit< tt; step = s5 };
+  unclosed = ((m5, ticks, refl), no_close);
+  next = refl;
+  reads = s6;
+  all = refl;
+}

@@ -58,3 +58,5 @@ pub mod Meeting
 pub mod Opens
 pub mod NewOpens
 pub mod Held
+pub mod LabHello
+pub mod LabRounds

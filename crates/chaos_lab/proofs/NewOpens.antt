@@ -1,4 +1,4 @@
--- The law of opening isn't about nothing: a new laboratory can open, and then settle, with usual times.
+-- A new laboratory can open and then settle, if both ends send again before they go down.
 use Rattle.std.proofs.Common.{ℕ, ◌+◌, ◌*◌, ◌<◌, ◌≤◌, refl, inl, arith}
 use Rattle.chaos_conn.specs.Config.{ConfigView}
 use Rattle.chaos_lab.specs.declared.side.Side.{Side}
@@ -7,12 +7,12 @@ use Rattle.chaos_lab.specs.Laboratory.{lab_end, lab_start}
 use Rattle.chaos_lab.specs.Opening.{CanOpen, HasTimeToSettle}
 use Rattle.chaos_lab.specs.Settling.{last_moment}
 
-new_opens : (a b : ConfigView) (start : ℕ) → a.retransmit < a.down → a.retransmit ≤ last_moment
+pub new_opens : (a b : ConfigView) (start : ℕ) → a.retransmit < a.down → a.retransmit ≤ last_moment
     → CanOpen (lab_start a b start)
 new_opens a b start again moments =
     record { asks = refl; meets = inl (refl, record { again = omega (arith, again); moments = omega (arith, moments) }) }
 
-new_has_time : (a b : ConfigView) (start : ℕ) → a.retransmit < a.down → b.retransmit < b.down
+pub new_has_time : (a b : ConfigView) (start : ℕ) → a.retransmit < a.down → b.retransmit < b.down
     → 2 * a.retransmit + 2 * b.retransmit ≤ last_moment → HasTimeToSettle (lab_start a b start)
 new_has_time a b start first second moments = record { in_time = by; moments = omega (arith, moments) }
   where

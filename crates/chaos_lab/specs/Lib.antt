@@ -20,3 +20,5 @@ pub mod Settling
 pub mod SettlingLeft
 pub mod Plays
 pub mod Opening
+pub mod LabHello
+pub mod MachineHello

@@ -12,6 +12,8 @@ ghost use Rattle.chaos_lab.specs.Machine.Phase.{RfcSent, RfcReceived, Open};
 ghost use Rattle.chaos_lab.specs.Machine.Event.{ReadAt};
 ghost use Rattle.chaos_lab.specs.Numbers.{told_num};
 ghost use Rattle.chaos_packet.specs.Begins.{Begins};
+ghost use Rattle.chaos_lab.specs.MachineHello.{SomethingIsAsked, SomethingIsRead};
+ghost use Rattle.chaos_lab.specs.LabHello.{LabCanSettle, LabsCanOpen, ReportComes, RoundsCome};
 ghost use Rattle.chaos_lab.specs.Plays.{KeepsPlay, KeepsQuiet, MayBegin, MayReplace, ReadsBegin, RfcIsFirst, AskingWaits, UnaskedIsNew, KnowsSides, OthersNameIndex, OpenHasRead, UnreadIsAlone, ComesHeld};
 ghost use Rattle.chaos_lab.specs.Law.{writer, reader, IsThere, DeliversInside, RunUnclosed, ReadsItem, ReadsNext, CanHappen};
 
@@ -152,4 +154,29 @@ pub fn law_kept()
     // An item that comes to an open end inside its window is held there, as many places from the
     // front as items before it are still to be read.
     ensures held { ComesHeld }
+{}
+
+/// The law that the premises of [`law_delivery`] and [`law_phases`] can be met.
+pub fn law_machine_hello()
+    // A run leads to a machine in which B was asked.
+    ensures asked { SomethingIsAsked }
+    // A run leads to a machine in which A has written an item. The item comes to B inside the
+    // window, and B reads it in its turn.
+    ensures read { SomethingIsRead }
+{}
+
+/// The law that the premises of the laws of a [`Lab`](crate::Lab) can be met.
+pub fn law_lab_hello()
+    // A laboratory can open before B took the request, while B holds the request, and after B has
+    // accepted it. Then there is time to settle.
+    ensures opening { LabsCanOpen }
+    // Two open ends can settle. One of them hasn't read all that the other wrote, and a copy of
+    // what is left to read may come inside the window.
+    ensures progress { LabCanSettle }
+    // A round comes in which the reader gets the item for which it waits. 64 rounds come one after
+    // the other, and in each of them the writer sends the item again.
+    ensures rounds { RoundsCome }
+    // An item that was read comes again. The answer comes back, and frees the writer of all that it
+    // keeps.
+    ensures reports { ReportComes }
 {}

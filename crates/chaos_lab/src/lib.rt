@@ -33,7 +33,10 @@ pub use fault::LabFault;
 pub use kept_item::KeptItem;
 pub use kept_packet::KeptPacket;
 pub use lab::Lab;
-pub use law::{law_delivery, law_kept, law_limits, law_numbers, law_phases, law_plays};
+pub use law::{
+    law_delivery, law_kept, law_lab_hello, law_limits, law_machine_hello, law_numbers, law_phases,
+    law_plays,
+};
 pub use rig::FRESH_SPAN;
 pub use settling::Settling;
 pub use side::Side;

@@ -25,6 +25,7 @@
 --   Apart     no packet of one connection changes another: law_apart
 --   Coming    an item that comes to its peer is held there
 --   InTurn    and read in its turn: law_in_turn
+--   TwoConnections  ten events by computation: law_two_connections
 --
 --   a net as it runs
 --   Seats     what an event makes of the seats, which tell turns and peers
@@ -52,6 +53,7 @@ pub mod Present
 pub mod Apart
 pub mod Coming
 pub mod InTurn
+pub mod TwoConnections
 pub mod Seats
 pub mod Fresh
 pub mod Marks

@@ -19,3 +19,4 @@ pub mod System
 pub mod Queue
 pub mod SystemHello
 pub mod TurnHalves
+pub mod TwoConnections

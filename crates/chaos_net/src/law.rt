@@ -10,6 +10,7 @@ ghost use Rattle.chaos_net.specs.Net.{Net, Name, Holds, NetworkLaw};
 ghost use Rattle.chaos_net.specs.Played.{ArePlayed};
 ghost use Rattle.chaos_net.specs.Present.{NamedIsPresent, ReadsAreTold, FrontIsTold, WritesAreTold};
 ghost use Rattle.chaos_net.specs.Short.{ShortLaw};
+ghost use Rattle.chaos_net.specs.TwoConnections.{CallsAreTaken, ItemComes, OtherIsThere};
 
 /// The law of the network. It asks for one thing: a packet that carries an acknowledgement comes
 /// while it is fresh. The network may lose, repeat, reorder and delay.
@@ -75,4 +76,18 @@ pub fn law_short()
 pub fn law_reached()
     // Eight events lead from two new hosts to a net in which a request and data were read.
     ensures { SomethingIsRead }
+{}
+
+/// The law that the premises of the laws of connections can be met: of [`law_in_turn`],
+/// [`law_apart`], [`law_present`] and [`law_net_holds`].
+pub fn law_two_connections()
+    // Ten events lead to a net of two hosts with two connections each. An item comes to a
+    // connection inside its window, and is the next that its user reads.
+    ensures item { ItemComes }
+    // The host has another connection, which isn't the peer of the item's sender. A request may
+    // come again.
+    ensures other { OtherIsThere }
+    // Once the item has come, the host shows the item and hands it out. The other host takes a
+    // write.
+    ensures calls { CallsAreTaken }
 {}

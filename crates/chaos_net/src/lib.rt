@@ -38,7 +38,7 @@ pub use fault::NetFault;
 pub use kept_sent::KeptSent;
 pub use law::{
     law_apart, law_in_turn, law_lasting, law_net_holds, law_network, law_present, law_reached,
-    law_short,
+    law_short, law_two_connections,
 };
 pub use net::{HostKind, Net};
 pub use system_law::{law_client_turns, law_halves, law_hello, law_nodes, law_queues, law_sockets};

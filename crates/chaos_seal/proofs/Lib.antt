@@ -3,6 +3,7 @@ pub mod Bytes
 pub mod Carried
 pub mod Changed
 pub mod Parts
+pub mod Rising
 pub mod Safe
 pub mod Sealed
 pub mod Table

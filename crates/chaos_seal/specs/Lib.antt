@@ -8,3 +8,4 @@ pub mod Sending
 pub mod Sources
 pub mod Window
 pub mod Vector
+pub mod Rising

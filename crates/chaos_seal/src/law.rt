@@ -1,5 +1,6 @@
 //! The laws of opening.
 ghost use Rattle.chaos_seal.specs.Law.{IsOpened, IsSafe};
+ghost use Rattle.chaos_seal.specs.Rising.{SomethingRises};
 ghost use Rattle.chaos_seal.specs.Vector.{IsVector};
 
 /// The law of what is handed up, over the definitions alone.
@@ -9,6 +10,14 @@ pub fn law_handed_up()
     // 256 behind each one handed up before. The one premise is that without the key nobody makes a
     // right tag.
     ensures { IsSafe }
+{}
+
+/// The law that the premises of [`law_handed_up`] can be met.
+pub fn law_rises()
+    // A host seals a datagram of its own packets, with whatever key. The datagram comes twice to
+    // another host, which may be closed. The premises of [`law_handed_up`] hold. The datagram is
+    // handed up, and its copy is refused. A datagram that carries a request is an example.
+    ensures { SomethingRises }
 {}
 
 /// The law of what is opened, over the definitions alone.

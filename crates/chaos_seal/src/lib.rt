@@ -44,7 +44,7 @@ mod sources;
 mod window;
 
 pub use fault::{KeyFault, SealFault};
-pub use law::{law_handed_up, law_opened, law_vector};
+pub use law::{law_handed_up, law_opened, law_rises, law_vector};
 pub use limits::{KEY_BYTES, MAX_PAYLOAD, SEAL_BYTES, SEAL_WINDOW, TAG_BYTES, law_limits};
 pub use opened::Opened;
 pub use seals::Seals;

@@ -18,7 +18,7 @@ use Rattle.chaos_sealed_net.specs.SealedHello.{SomethingSealedIsRead, after_seal
 
 -- ---- short runs
 
-fresh_near : (n : Net) (x : Side) (q : Sent) → IsFresh n x q → IsNear n x q
+pub fresh_near : (n : Net) (x : Side) (q : Sent) → IsFresh n x q → IsNear n x q
 fresh_near n x q h ack c d s t by from now there index =
     let f = h ack c d s t by from now there index in record { meant = f.meant; peer = f.peer }
 

@@ -11,6 +11,7 @@
 --   Turning   a turn of a node, as events of the sealed machine
 --   Posting   the datagrams that a node posted, as datagrams that were sealed
 --   Nodes     the net behind two nodes: law_sealed_nodes
+--   NodesHello  eleven steps of two nodes: law_sealed_nodes_hello
 pub mod Lists
 pub mod Deeds
 pub mod Unread
@@ -22,3 +23,4 @@ pub mod Example
 pub mod Turning
 pub mod Posting
 pub mod Nodes
+pub mod NodesHello

@@ -1,3 +1,4 @@
 pub mod SealedNet
 pub mod SealedHello
 pub mod SealedNodes
+pub mod SealedNodesHello

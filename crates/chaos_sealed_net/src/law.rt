@@ -3,6 +3,7 @@
 ghost use Rattle.chaos_sealed_net.specs.SealedHello.{SomethingSealedIsRead};
 ghost use Rattle.chaos_sealed_net.specs.SealedNet.{SealedNetworkLaw, SealedRunsAreRuns};
 ghost use Rattle.chaos_sealed_net.specs.SealedNodes.{SealedNodesStay};
+ghost use Rattle.chaos_sealed_net.specs.SealedNodesHello.{SomethingIsReadBySealedNodes};
 
 /// The law of freshness.
 pub fn law_fresh()
@@ -29,4 +30,12 @@ pub fn law_sealed_nodes()
     // below the greatest that came, and each packet must be near. The seals may give any counters
     // that rise.
     ensures { SealedNodesStay }
+{}
+
+/// The law that the premises of [`law_sealed_nodes`] can be met.
+pub fn law_sealed_nodes_hello()
+    // Eleven steps lead from two new nodes, over real bytes, to a system in which a node has read a
+    // request and data. The counters rise, and what came was in time and near. A net stands for the
+    // system.
+    ensures { SomethingIsReadBySealedNodes }
 {}

@@ -18,4 +18,4 @@
 
 mod law;
 
-pub use law::{law_fresh, law_sealed_hello, law_sealed_nodes};
+pub use law::{law_fresh, law_sealed_hello, law_sealed_nodes, law_sealed_nodes_hello};

@@ -6,3 +6,4 @@ pub mod Handed
 pub mod Keys
 pub mod Received
 pub mod Sent
+pub mod SomeCalls

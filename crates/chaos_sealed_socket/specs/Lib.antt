@@ -4,3 +4,4 @@ pub mod Beneath
 pub mod Calls
 pub mod Law
 pub mod Run
+pub mod SomeCalls

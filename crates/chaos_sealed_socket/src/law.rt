@@ -1,6 +1,7 @@
 //! The laws of a sealed socket.
 ghost use Rattle.chaos_sealed_socket.specs.Law.{AnswersShorter, HasTheirDestination, LinkSealsWhatItSends, SealsWhatItSends};
 ghost use Rattle.chaos_sealed_socket.specs.Run.{HandsUpOnce};
+ghost use Rattle.chaos_sealed_socket.specs.SomeCalls.{HasOneDestination, SomethingIsAnswered, SomethingIsReceived, SomethingIsSent};
 
 use chaos_link::{DatagramSocket, PeerKeeper};
 
@@ -28,4 +29,19 @@ pub fn law_received()
     // fewer than 256 behind each one handed up before. What is handed up as it came carries packets
     // of hosts alone that are heard in clear. The one premise is that without the key nobody makes a right tag.
     ensures { HandsUpOnce }
+{}
+
+/// The law that the premises of [`law_received`] and [`law_sent`] can be met, whatever the key is.
+pub fn law_calls()
+    // A socket has heard nothing and makes five calls. A request comes under seal and is handed up.
+    // Its copy is refused, and a request in clear is passed up. The socket sends a request under
+    // seal and another in clear. Nobody else makes a right tag.
+    ensures received { SomethingIsReceived }
+    // A socket is asked to send two requests. The socket beneath is asked to send one under seal and
+    // the other in clear. A link over such a socket is asked to send one request.
+    ensures sent { SomethingIsSent }
+    // A request for another session of the receiver is answered by a hello.
+    ensures answers { SomethingIsAnswered }
+    // The datagram of a request carries packets to one host alone.
+    ensures destination { HasOneDestination }
 {}

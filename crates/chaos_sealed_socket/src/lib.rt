@@ -26,6 +26,6 @@ mod observer;
 mod recent;
 mod socket;
 
-pub use law::{law_received, law_sent};
+pub use law::{law_calls, law_received, law_sent};
 pub use observer::{SealObserver, Unobserved};
 pub use socket::SealedSocket;

@@ -8,3 +8,4 @@ pub mod Exact
 pub mod Settling
 pub mod SettlingLeft
 pub mod Progress
+pub mod FileLabHello

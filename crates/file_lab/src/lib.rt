@@ -9,10 +9,12 @@
 mod bodies;
 mod event;
 mod file_lab;
+mod law;
 mod server;
 mod settling;
 
 pub use bodies::Bodies;
 pub use event::{FileEvent, FileStepped};
 pub use file_lab::FileLab;
+pub use law::law_file_lab_hello;
 pub use settling::FileSettling;
