@@ -1,4 +1,5 @@
 pub mod Asked
+pub mod Done
 pub mod ServeKeys
 pub mod ServedPeers
 pub mod Shown

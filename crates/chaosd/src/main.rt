@@ -5,6 +5,7 @@
 #![tactic(auto)]
 
 ghost use Rattle.std.specs.Prelude.{◌≡◌, ◌≤◌, length, true};
+ghost use Rattle.chaosd.specs.Done.{AllDoneOf};
 
 mod asking;
 mod descriptors;
@@ -32,11 +33,12 @@ use crate::skipped::skip_marked;
 use crate::status::refused_status;
 use crate::terminals::Terminals;
 use crate::words::{Mark, WordsFault, words_of};
-use chaosd_call::{ExitStatus, run_work};
+use chaosd_call::{ChudpClient, ExitStatus, OwnClient, run_work};
 use chaosd_io::RunFault;
 use chaosd_lab::{FileStage, LabStage};
 use chaosd_line::{Line, LineFault, parse_line};
 use clap::Error;
+use file_copy::Talk;
 use std::fs::{File, Files};
 use std::io::IsTerminal;
 use std::net::Net;
@@ -50,6 +52,11 @@ use std::time::Clock;
 fn run_line<R>(rt: &R, line: Line<'_>, terminals: Terminals) -> ExitStatus
 where
     R: AllocGlobal + Clock + Env + Eprint + Files<File = File> + Input + Net + Print,
+    // If the status is Done, then a new client called the line's server, and in one session exactly
+    // one operation was done for each file of the line. Exactly the commands of these operations were
+    // sent, and exactly the replies that report success were received.
+    ensures done { result ≡ ExitStatus.Done →
+        AllDoneOf ⟦<OwnClient<'static, R> as Talk>⟧ ⟦<ChudpClient<'static, R> as Talk>⟧ line.entry }
 {
     match line {
         Line::Show(show) => run_show_line(rt, show),

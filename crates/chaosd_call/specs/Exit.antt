@@ -1,5 +1,5 @@
 -- Exit statuses.
-use Rattle.std.specs.Prelude.{ℕ, Bool, true, false, nat_lt, if◌then◌else◌, Result, Ok, Err}
+use Rattle.std.specs.Prelude.{◌≢◌, ℕ, Bool, true, false, nat_lt, if◌then◌else◌, Result, Ok, Err}
 use Rattle.chaosd_io.specs.declared.fault.RunFault.{RunFault}
 use Rattle.chaosd_io.specs.declared.fault.RunFault.TheVariants as f
 use Rattle.file_transfer.specs.declared.severity.Severity.{Severity}
@@ -14,6 +14,10 @@ number_of Refused = 3
 number_of BadLine = 2
 number_of Fault = 1
 number_of NoMemory = 4
+
+-- a status that isn't Done
+abbrev pub IsFailure : ExitStatus → Type 0
+IsFailure status = status ≢ Done
 
 -- its place in their order, from well to worst
 abbrev pub rank : ExitStatus → ℕ

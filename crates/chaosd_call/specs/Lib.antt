@@ -5,7 +5,9 @@ pub mod Epochs
 pub mod Exit
 pub mod Hearing
 pub mod Hops
+pub mod Job
 pub mod Key
+pub mod LineDone
 pub mod NewNames
 pub mod Patience
 pub mod ProgressText

@@ -1,15 +1,20 @@
 //! The runs of `delete` and `rename`: what another host does with its files.
+ghost use Rattle.std.specs.Prelude.{◌≡◌};
+ghost use Rattle.file_transfer.specs.Outcome.{MatchChanged};
+ghost use Rattle.file_transfer.specs.Sessions.{EntersAnd, rename_of};
+ghost use Rattle.chaosd_call.specs.Job.{Deletes, Renames};
+
 use crate::dialogs::{Caller, Work};
 use crate::exit_status::ExitStatus;
 use crate::file_words::{CHANGE_UNKNOWN, Deed, FileWords, is_done_reported};
 use crate::progress::ProgressLine;
 use chaos_file::MAX_PATH;
-use chaos_link::Link;
 use chaos_node::ReadableClock;
 use chaosd_line::{Calling, Delete, Rename};
-use file_client::{Client, ClientHost, ClockDriver, Timing};
 use file_copy::Talk;
-use file_transfer::{DeleteFiles, Outcome, OutcomeSink, ProgressSink, Session, run_copies};
+use file_transfer::{
+    DeleteFiles, Outcome, OutcomeSink, ProgressSink, Session, law_deletes, run_copies,
+};
 
 /// Reports changes. A change that was made is reported where the user asked for that, and on a
 /// terminal.
@@ -39,6 +44,10 @@ fn no_progress<'a, 'r, R: AllocGlobal + Eprint>(
 }
 
 impl<R: AllocGlobal + ReadableClock + Eprint> Work<R> for Delete<'_> {
+    ghost calling = { λ line. line.calling };
+
+    ghost job = { λ line. Deletes line.paths.items };
+
     fn calling(&self) -> &Calling<'_> {
         &self.calling
     }
@@ -47,27 +56,15 @@ impl<R: AllocGlobal + ReadableClock + Eprint> Work<R> for Delete<'_> {
         is_terminal && !self.is_quiet
     }
 
-    fn run<'v, 'c, L: Link>(
-        &self,
-        rt: &'v R,
-        host: ClientHost,
-        clock: &'c R,
-        link: &'c mut L,
-        timing: Timing,
-        caller: &Caller<'v, '_, R>,
-    ) -> ExitStatus {
+    fn run<T: Talk + Drop>(&self, client: T, caller: &Caller<'_, '_, R>) -> ExitStatus {
+        let rt = caller.rt;
         let progress = no_progress(rt, caller);
         let (is_verbose, is_quiet) = (self.is_verbose, self.is_quiet);
         let mut words = words_of(&*rt, &*caller, is_verbose, is_quiet, Deed::Delete);
-        let mut host = host;
-        let driver = ClockDriver::new(clock, link, timing);
-        let client = Client {
-            host: &mut host,
-            driver,
-        };
         let mut deletes = DeleteFiles {
             session: Session::new(client, progress, self.calling.login),
         };
+        law_deletes::<T, ProgressLine<'_, '_, R>>();
         let worst = run_copies(&mut deletes, &mut words, self.paths.as_slice());
         deletes.session.end();
         ExitStatus::of_files(worst)
@@ -75,10 +72,11 @@ impl<R: AllocGlobal + ReadableClock + Eprint> Work<R> for Delete<'_> {
 }
 
 /// Renames a file, and says what came of it.
-fn renamed<T: Talk, V: ProgressSink>(
-    session: &mut Session<'_, T, V>,
-    line: &Rename<'_>,
-) -> Outcome {
+fn renamed<T: Talk, V: ProgressSink>(session: &mut Session<'_, T, V>, line: &Rename<'_>) -> Outcome
+    ensures { MatchChanged result
+        (EntersAnd T.talked T.connects session.old.is_in session.old.login.now session.old.talk
+        (rename_of line.now.from.now line.now.to.now) session.new.talk) }
+{
     if line.from.len() > MAX_PATH || line.to.len() > MAX_PATH {
         return Outcome::TooLong;
     }
@@ -86,6 +84,10 @@ fn renamed<T: Talk, V: ProgressSink>(
 }
 
 impl<R: AllocGlobal + ReadableClock + Eprint> Work<R> for Rename<'_> {
+    ghost calling = { λ line. line.calling };
+
+    ghost job = { λ line. Renames line.from.now line.to.now };
+
     fn calling(&self) -> &Calling<'_> {
         &self.calling
     }
@@ -94,25 +96,12 @@ impl<R: AllocGlobal + ReadableClock + Eprint> Work<R> for Rename<'_> {
         is_terminal && !self.is_quiet
     }
 
-    fn run<'v, 'c, L: Link>(
-        &self,
-        rt: &'v R,
-        host: ClientHost,
-        clock: &'c R,
-        link: &'c mut L,
-        timing: Timing,
-        caller: &Caller<'v, '_, R>,
-    ) -> ExitStatus {
+    fn run<T: Talk + Drop>(&self, client: T, caller: &Caller<'_, '_, R>) -> ExitStatus {
+        let rt = caller.rt;
         let progress = no_progress(rt, caller);
         let (is_verbose, is_quiet) = (self.is_verbose, self.is_quiet);
         let deed = Deed::Rename(self.to);
         let mut words = words_of(&*rt, &*caller, is_verbose, is_quiet, deed);
-        let mut host = host;
-        let driver = ClockDriver::new(clock, link, timing);
-        let client = Client {
-            host: &mut host,
-            driver,
-        };
         let mut session = Session::new(client, progress, self.calling.login);
         let outcome = renamed(&mut session, self);
         words.report(self.from, &outcome);

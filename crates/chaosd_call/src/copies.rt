@@ -1,5 +1,6 @@
 //! The runs of `get` and `put`: whole files between local ones and another host's.
 ghost use Rattle.std.specs.Prelude.{◌≡◌, nat_lt};
+ghost use Rattle.chaosd_call.specs.Job.{Gets, Puts};
 
 use crate::copy_run::CopyRun;
 use crate::dialogs::{Caller, Work};
@@ -7,13 +8,12 @@ use crate::exit_status::ExitStatus;
 use crate::file_words::{Deed, FileWords, PUT_UNKNOWN, is_done_reported};
 use crate::input::has_input;
 use crate::progress::ProgressLine;
-use chaos_link::Link;
 use chaos_node::ReadableClock;
 use chaosd_io::RunFault;
 use chaosd_line::{Calling, Copying, Get, Put};
-use file_client::{Client, ClientHost, ClockDriver, Timing};
+use file_copy::Talk;
 use file_names::{Destination, STREAM};
-use file_transfer::{Disk, GetFiles, PutFiles, Session, run_copies};
+use file_transfer::{Disk, GetFiles, PutFiles, Session, law_runs, run_copies};
 use std::fs::File;
 use std::rt::Files;
 
@@ -78,6 +78,10 @@ impl<R> Work<R> for Get<'_>
 where
     R: AllocGlobal + ReadableClock + Eprint + Files<File = File> + Input + Print,
 {
+    ghost calling = { λ line. line.copying.calling };
+
+    ghost job = { λ line. Gets line.paths.items };
+
     fn calling(&self) -> &Calling<'_> {
         &self.copying.calling
     }
@@ -86,15 +90,8 @@ where
         is_shown(is_terminal, &self.copying)
     }
 
-    fn run<'v, 'c, L: Link>(
-        &self,
-        rt: &'v R,
-        host: ClientHost,
-        clock: &'c R,
-        link: &'c mut L,
-        timing: Timing,
-        caller: &Caller<'v, '_, R>,
-    ) -> ExitStatus {
+    fn run<T: Talk + Drop>(&self, client: T, caller: &Caller<'_, '_, R>) -> ExitStatus {
+        let rt = caller.rt;
         let copying = &self.copying;
         let calling = &copying.calling;
         let destination = Destination::of(self.output);
@@ -103,12 +100,6 @@ where
         let progress = progress_of(&*rt, &*caller, &run, copying);
         let mut words = words_of(&*rt, &*caller, &run, copying, Deed::Get(destination));
         let locals = Disk::new(&*rt, caller.client.socket.port());
-        let mut host = host;
-        let driver = ClockDriver::new(clock, link, timing);
-        let client = Client {
-            host: &mut host,
-            driver,
-        };
         let mut gets = GetFiles {
             alloc,
             session: Session::new(client, progress, calling.login),
@@ -117,6 +108,7 @@ where
             is_text: copying.is_text,
             is_digested: copying.is_verbose,
         };
+        law_runs::<T, Disk<'_, R>, ProgressLine<'_, '_, R>>();
         let worst = run_copies(&mut gets, &mut words, self.paths.as_slice());
         gets.session.end();
         report_bound(rt, copying, gets.session.progress.least_room());
@@ -128,6 +120,10 @@ impl<R> Work<R> for Put<'_>
 where
     R: AllocGlobal + ReadableClock + Eprint + Files<File = File> + Input + Print,
 {
+    ghost calling = { λ line. line.copying.calling };
+
+    ghost job = { λ line. Puts line.files.items };
+
     fn calling(&self) -> &Calling<'_> {
         &self.copying.calling
     }
@@ -146,15 +142,8 @@ where
         Some(ExitStatus::Fault)
     }
 
-    fn run<'v, 'c, L: Link>(
-        &self,
-        rt: &'v R,
-        host: ClientHost,
-        clock: &'c R,
-        link: &'c mut L,
-        timing: Timing,
-        caller: &Caller<'v, '_, R>,
-    ) -> ExitStatus {
+    fn run<T: Talk + Drop>(&self, client: T, caller: &Caller<'_, '_, R>) -> ExitStatus {
+        let rt = caller.rt;
         let copying = &self.copying;
         let calling = &copying.calling;
         let is_shown = is_shown(caller.is_terminal, copying);
@@ -163,18 +152,13 @@ where
         let deed = Deed::Put(self.files.as_slice());
         let mut words = words_of(&*rt, &*caller, &run, copying, deed);
         let locals = Disk::new(&*rt, caller.client.socket.port());
-        let mut host = host;
-        let driver = ClockDriver::new(clock, link, timing);
-        let client = Client {
-            host: &mut host,
-            driver,
-        };
         let mut puts = PutFiles {
             session: Session::new(client, progress, calling.login),
             locals,
             is_text: copying.is_text,
             is_digested: copying.is_verbose,
         };
+        law_runs::<T, Disk<'_, R>, ProgressLine<'_, '_, R>>();
         let worst = run_copies(&mut puts, &mut words, self.files.as_slice());
         puts.session.end();
         report_bound(rt, copying, puts.session.progress.least_room());

@@ -1,6 +1,6 @@
 //! Exit statuses.
 ghost use Rattle.std.specs.Prelude.{◌≡◌};
-ghost use Rattle.chaosd_call.specs.Exit.{number_of, fault_status, rank, worse, status_of_fault, status_of_files, status_of_run};
+ghost use Rattle.chaosd_call.specs.Exit.{IsFailure, number_of, fault_status, rank, worse, status_of_fault, status_of_files, status_of_run};
 
 use chaosd_io::RunFault;
 use file_transfer::Severity;
@@ -60,6 +60,8 @@ impl ExitStatus {
         ensures value { result ≡ status_of_fault fault }
         // The status has the number that `fault_status` gives the fault.
         ensures number { number_of result ≡ fault_status fault }
+        // The status isn't Done.
+        ensures failed { IsFailure result }
     {
         match fault {
             RunFault::NoMemory => ExitStatus::NoMemory,

@@ -1,5 +1,6 @@
 //! The file of a key.
 ghost use Rattle.std.specs.Prelude.{IfOk};
+ghost use Rattle.chaosd_call.specs.Exit.{IsFailure};
 ghost use Rattle.chaosd_call.specs.Key.{IsRefusedAs, IsWritten};
 
 use crate::exit_status::ExitStatus;
@@ -52,7 +53,10 @@ impl From<FromHexError> for KeyFileFault {
 
 impl KeyFileFault {
     /// The exit status of a run that needs the key.
-    pub fn status(&self) -> ExitStatus {
+    pub fn status(&self) -> ExitStatus
+        // The status isn't Done.
+        ensures { IsFailure result }
+    {
         match self {
             KeyFileFault::Unread(error) if error.kind() == ErrorKind::OutOfMemory => {
                 ExitStatus::NoMemory

@@ -1,5 +1,6 @@
 //! The keys that a host has with others.
-ghost use Rattle.std.specs.Prelude.{◌≡◌, IfOk, IfSome, is_some, string_bytes};
+ghost use Rattle.std.specs.Prelude.{◌≡◌, IfErr, IfOk, IfSome, is_some, string_bytes};
+ghost use Rattle.chaosd_call.specs.Exit.{IsFailure};
 ghost use Rattle.chaosd_call.specs.Key.{IsWritten, name_beside};
 
 use crate::exit_status::ExitStatus;
@@ -51,7 +52,9 @@ pub fn key_in<R>(rt: &R, name: &str) -> Result<Key, ExitStatus>
 where
     R: AllocGlobal + Eprint + Files<File = File>,
     // The key is one that some text writes.
-    ensures { IfOk result IsWritten }
+    ensures written { IfOk result IsWritten }
+    // The error is never the status Done.
+    ensures failed { IfErr result IsFailure }
 {
     match read_key(rt, name) {
         Ok(key) => Ok(key),
@@ -67,6 +70,8 @@ where
     // A key is one that some text writes. There is none exactly where the line names no file.
     ensures written { IfOk result (λ key. IfSome key IsWritten) }
     ensures given { IfOk result (λ key. is_some key ≡ is_some file.entry) }
+    // The error is never the status Done.
+    ensures failed { IfErr result IsFailure }
 {
     match file {
         Some(name) => Ok(Some(key_in(rt, name)?)),
@@ -75,7 +80,9 @@ where
 }
 
 /// Reports why the file of this name gives no key. The result is the status.
-fn report_key<R: Eprint>(rt: &R, name: &str, fault: &KeyFileFault) -> ExitStatus {
+fn report_key<R: Eprint>(rt: &R, name: &str, fault: &KeyFileFault) -> ExitStatus
+    ensures { IsFailure result }
+{
     let _ = eprintln!(rt; "chaosd: {}", KeyRefusal { name, fault });
     fault.status()
 }
@@ -94,6 +101,8 @@ where
     // host.
     ensures written { IfOk result (λ key. IfSome key IsWritten) }
     ensures given { IfOk result (λ key. is_some key ≡ is_some host.now.key) }
+    // The error is never the status Done.
+    ensures failed { IfErr result IsFailure }
 {
     let Some(file) = host.key else {
         return Ok(None);

@@ -28,7 +28,7 @@ mod waiting;
 
 pub use client::{contact_of, epoch_of, patience_of};
 pub use config::config_of;
-pub use dialogs::run_work;
+pub use dialogs::{ChudpClient, OwnClient, run_work};
 pub use exit_status::ExitStatus;
 pub use hops::hops_of;
 pub use input::has_input;

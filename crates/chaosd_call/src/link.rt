@@ -1,5 +1,6 @@
 //! The link of a client to its server, over a socket.
-ghost use Rattle.std.specs.Prelude.{◌≡◌, IfOk, is_some, option_map};
+ghost use Rattle.std.specs.Prelude.{◌≡◌, IfErr, IfOk, is_some, option_map};
+ghost use Rattle.chaosd_call.specs.Exit.{IsFailure};
 ghost use Rattle.chaosd_call.specs.Hearing.{alone_heard};
 ghost use Rattle.chaosd_call.specs.Key.{SealsWith, keys_with};
 
@@ -18,6 +19,9 @@ use std::net::SocketAddrV4;
 /// A client's socket, which seals over the socket within what goes to its server.
 pub type ClientSocket<'a, R, S> = SealedSocket<S, SealWords<'a, R>>;
 
+/// The link of a client to its server, over which packets go in the program's own datagrams.
+pub type OwnLink<'a, R> = UdpLink<ClientSocket<'a, R, PeerSocket<'a, R>>>;
+
 /// A link over the socket of a call, to its server. The client's wait notes how each send went. That
 /// the clock can't be read is reported, and the error is the status.
 pub fn link_to_server<'a, R: AllocGlobal + ReadableClock + Eprint>(
@@ -25,7 +29,10 @@ pub fn link_to_server<'a, R: AllocGlobal + ReadableClock + Eprint>(
     waiting: &'a Waiting<'a, R>,
     opened: OpenEnds,
     hears_anybody: bool,
-) -> Result<UdpLink<ClientSocket<'a, R, PeerSocket<'a, R>>>, ExitStatus> {
+) -> Result<OwnLink<'a, R>, ExitStatus>
+    // The error is never the status Done.
+    ensures { IfErr result IsFailure }
+{
     let OpenEnds { ends, key, socket } = opened;
     let heard = heard_alone(ends.server, hears_anybody);
     let socket = PeerSocket::new(rt, waiting, socket, heard);
@@ -48,6 +55,8 @@ pub fn sealed_to<R: AllocGlobal + ReadableClock + Eprint, S: Drop>(
     // it hears nobody in clear.
     ensures seals { IfOk result (λ sealed.
         SealsWith (R.dates rt.now) me (keys_with server key) (is_some key) sealed.sealing.seals) }
+    // The error is never the status Done.
+    ensures failed { IfErr result IsFailure }
 {
     let seals = match key {
         Some(key) => seals_of(

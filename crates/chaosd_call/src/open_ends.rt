@@ -1,7 +1,8 @@
 //! The ends of a call: the socket at this host's own end, and the server.
-ghost use Rattle.std.specs.Prelude.{◌≡◌, IfOk, Ok, string_bytes};
+ghost use Rattle.std.specs.Prelude.{◌≡◌, IfErr, IfOk, Ok, string_bytes};
 ghost use Rattle.chaosd_hosts.specs.Table.{table_of};
 ghost use Rattle.chaosd_call.specs.Called.{IsNamed, IsServerIn, LeadsTo};
+ghost use Rattle.chaosd_call.specs.Exit.{IsFailure};
 
 use crate::exit_status::ExitStatus;
 use crate::keys::{Key, key_in, key_of_host, key_of_line};
@@ -56,6 +57,8 @@ pub fn report_table<R: Eprint, D: Display>(rt: &R, file: &str, mistake: &D) -> E
 pub fn table_of_line<R>(rt: &R, hosts: Option<&str>) -> Result<TableFile, ExitStatus>
 where
     R: AllocGlobal + Env + Eprint + Files<File = File>,
+    // The error is never the status Done.
+    ensures { IfErr result IsFailure }
 {
     match find_table(rt, hosts) {
         Ok(file) => Ok(file),
@@ -69,7 +72,9 @@ where
 /// The hosts table that a file has. A mistake in the table is reported, and the error is the status.
 pub fn hosts_in<'t, R: Eprint>(rt: &R, file: &'t TableFile) -> Result<HostsTable<'t>, ExitStatus>
     // The table is the one that the text of the file writes.
-    ensures { IfOk result (λ table. table_of (string_bytes file.entry.now.text) ≡ Ok table) }
+    ensures table { IfOk result (λ table. table_of (string_bytes file.entry.now.text) ≡ Ok table) }
+    // The error is never the status Done.
+    ensures failed { IfErr result IsFailure }
 {
     match HostsTable::read(file.text.as_str()) {
         Ok(table) => Ok(table),
@@ -94,7 +99,8 @@ fn server_in<R: Eprint>(
     table: &HostsTable<'_>,
     name: &str,
 ) -> Result<Peer, ExitStatus>
-    ensures { IfOk result (IsServerIn table.now name.now) }
+    ensures server { IfOk result (IsServerIn table.now name.now) }
+    ensures failed { IfErr result IsFailure }
 {
     let Some(host) = table.find(name) else {
         return Err(report_table(rt, file, &format_args!("there is no host {name}")));
@@ -113,7 +119,9 @@ fn server_in<R: Eprint>(
 }
 
 /// Reports that none of this host's own entries can be used. The result is the status.
-fn report_no_self<R: Eprint>(rt: &R, file: &str, taken: Option<io::Error>) -> ExitStatus {
+fn report_no_self<R: Eprint>(rt: &R, file: &str, taken: Option<io::Error>) -> ExitStatus
+    ensures { IsFailure result }
+{
     let Some(error) = taken else {
         return report_table(
             rt,
@@ -135,7 +143,8 @@ fn open_own<R: Eprint + Net>(
     selves: &[Host<'_>],
     server: Peer,
 ) -> Result<(Ends, UdpSocket), ExitStatus>
-    ensures { IfOk result (λ opened. opened.0.server ≡ server) }
+    ensures server { IfOk result (λ opened. opened.0.server ≡ server) }
+    ensures failed { IfErr result IsFailure }
 {
     let mut taken = None;
     for own in selves {
@@ -162,7 +171,9 @@ where
     R: AllocGlobal + Env + Eprint + Files<File = File> + Net,
     // The server of the call is the host with this name in a table that some text writes: at the
     // host's UDP address, or at the bridge's where the table has none for the host.
-    ensures { IfOk result (λ opened. IsNamed name.now opened.ends.server) }
+    ensures server { IfOk result (λ opened. IsNamed name.now opened.ends.server) }
+    // The error is never the status Done.
+    ensures failed { IfErr result IsFailure }
 {
     let file = table_of_line(rt, words.hosts)?;
     let table = hosts_in(rt, &file)?;
@@ -181,7 +192,9 @@ pub fn open_ends<R>(rt: &R, calling: &Calling<'_>) -> Result<OpenEnds, ExitStatu
 where
     R: AllocGlobal + Env + Eprint + Files<File = File> + Net,
     // The call has the ends that the line has, or its server is the host with the line's name.
-    ensures { IfOk result (λ opened. LeadsTo calling.now.target opened.ends) }
+    ensures leads { IfOk result (λ opened. LeadsTo calling.now.target opened.ends) }
+    // The error is never the status Done.
+    ensures failed { IfErr result IsFailure }
 {
     let words = CallWords {
         framing: calling.framing,

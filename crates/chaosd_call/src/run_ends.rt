@@ -1,6 +1,6 @@
 //! Reports on standard error how a run ended, or why it could not begin.
 ghost use Rattle.std.specs.Prelude.{◌≡◌, ◌⊎◌};
-ghost use Rattle.chaosd_call.specs.Exit.{status_of_fault};
+ghost use Rattle.chaosd_call.specs.Exit.{IsFailure, status_of_fault};
 
 use crate::exit_status::ExitStatus;
 use chaosd_io::RunFault;
@@ -34,8 +34,9 @@ pub fn report_unopened<R: Eprint, D: Display>(rt: &R, what: &D, error: &io::Erro
 
 /// Reports the fault by which a run over files could not begin.
 pub fn report_unbegun<R: Eprint>(rt: &R, fault: RunFault) -> ExitStatus
-    // The status is that of the fault.
-    ensures { result ≡ status_of_fault fault }
+    // The status is that of the fault, and isn't Done.
+    ensures value { result ≡ status_of_fault fault }
+    ensures failed { IsFailure result }
 {
     let _ = eprintln!(rt; "chaosd: no file: {fault}");
     ExitStatus::of_fault(fault)

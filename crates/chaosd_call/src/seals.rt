@@ -1,5 +1,6 @@
 //! What a run seals with.
-ghost use Rattle.std.specs.Prelude.{◌≡◌, [], IfOk, IfSome};
+ghost use Rattle.std.specs.Prelude.{◌≡◌, [], IfErr, IfOk, IfSome};
+ghost use Rattle.chaosd_call.specs.Exit.{IsFailure};
 ghost use Rattle.chaosd_call.specs.Key.{IsSession, SealsWith};
 
 use crate::exit_status::ExitStatus;
@@ -20,7 +21,8 @@ fn session_now<R: ReadableClock>(rt: &R) -> Option<u64>
 
 /// The session of a run with these keys. A run without keys seals nothing, and needs no clock.
 fn session_of<R: ReadableClock + Eprint>(rt: &R, keys: &[HostKey]) -> Result<u64, ExitStatus>
-    ensures { IfOk result (IsSession (R.dates rt.now) keys.now) }
+    ensures session { IfOk result (IsSession (R.dates rt.now) keys.now) }
+    ensures failed { IfErr result IsFailure }
 {
     if keys.is_empty() {
         return Ok(0);
@@ -47,7 +49,9 @@ fn no_seals(alloc: Global, me: u16, session: u64, is_closed: bool) -> Seals
 }
 
 /// The exit status of a run that can't have a key.
-fn status_of(fault: KeyFault) -> ExitStatus {
+fn status_of(fault: KeyFault) -> ExitStatus
+    ensures { IsFailure result }
+{
     match fault {
         KeyFault::NoMemory => ExitStatus::NoMemory,
         KeyFault::TooMany | KeyFault::Already => ExitStatus::BadLine,
@@ -66,7 +70,9 @@ pub fn seals_of<R: AllocGlobal + ReadableClock + Eprint>(
     // The host seals at its address with each of the keys, and nothing was sealed or heard yet. The
     // session is a time that the clock may show, in nanoseconds since 1970, or 0 without keys. A
     // closed host hears nobody in clear.
-    ensures { IfOk result (SealsWith (R.dates rt.now) me keys.now is_closed) }
+    ensures seals { IfOk result (SealsWith (R.dates rt.now) me keys.now is_closed) }
+    // The error is never the status Done.
+    ensures failed { IfErr result IsFailure }
 {
     let mut seals = no_seals(rt.alloc(), me, session_of(rt, keys)?, is_closed);
     for key in keys {

@@ -1,4 +1,6 @@
 //! The file of the hosts table.
+ghost use Rattle.chaosd_call.specs.Exit.{IsFailure};
+
 use crate::exit_status::ExitStatus;
 use chaos_file::PrintedName;
 use chaosd_io::RunFault;
@@ -44,7 +46,10 @@ impl From<AllocError> for NoTable {
 
 impl NoTable {
     /// The exit status of a run that needs a table.
-    pub fn status(&self) -> ExitStatus {
+    pub fn status(&self) -> ExitStatus
+        // The status isn't Done.
+        ensures { IsFailure result }
+    {
         match self {
             NoTable::Nowhere => ExitStatus::BadLine,
             NoTable::Unread(..) => ExitStatus::Fault,

@@ -229,6 +229,12 @@ impl<D: Driver> Talk for Client<'_, D> {
           failures = D.failures client.driver;
         } };
 
+    /// It hung up, and asked its server for its contact, at a moment that its clock may show.
+    ghost connects = { λ old new. (D.time new.driver ≡ D.time old.driver)
+        × Connects (D.pace (D.time old.driver)) (Asks (D.asked old.driver) (D.asked new.driver))
+        new.host.now.now (D.queue old.driver) (D.queue new.driver) old.host.now.caller
+        new.host.now.caller };
+
     /// A fault of the clock, where that may fail, or of the link, where it counts a failure.
     ghost failed_by = { λ client. IsTurnFault (D.stops (D.time client.driver))
         (D.failures client.driver) };

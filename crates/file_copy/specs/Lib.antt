@@ -2,6 +2,7 @@ pub mod Copy
 pub mod Talk
 pub mod Row
 pub mod Ends
+pub mod Operation
 pub mod Text
 pub mod Memory
 pub mod Local

@@ -131,6 +131,9 @@ impl Talk for MemTalk {
       end = None;
     } };
 
+    /// Its server is there: asking for a connection does nothing.
+    ghost connects = { λ old new. new ≡ old };
+
     /// No turn fails.
     ghost failed_by = { λ _ _. ⊥ };
 

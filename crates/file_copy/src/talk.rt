@@ -30,6 +30,9 @@ pub trait Talk {
     /// Why no reply came, as far as the talk knows.
     ghost missing: { Self → NoReply };
 
+    /// What asking for a connection makes of it, where that ends well.
+    ghost connects: { Self → Self → Type 0 };
+
     /// The faults that may have ended the last turn.
     ghost failed_by: { Self → NodeFault → Type 0 };
 
@@ -100,6 +103,8 @@ pub trait Talk {
     /// # Errors
     /// Those of the talk's turns.
     fn connect(&mut self) -> Result<(), NodeFault>
+        // Where it ends well, it made of the talk what `connects` says.
+        ensures connects { OnOk result (connects self.old self.new) }
         // A connection that was asked for counted no failure.
         ensures unfailed { OnOk result ((course self.new).failures ≤ (course self.old).failures) }
         // The patience stays as it is.

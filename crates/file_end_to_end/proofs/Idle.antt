@@ -1,19 +1,20 @@
--- A client that is idle: whatever happens meanwhile, it is ready for a copy, and it is idle again behind the copy.
-use Rattle.std.proofs.Common.{◌≡◌, ◌⊎◌, ℕ, ◌+◌, List, [], ◌∷◌, ◌++◌, drop, length, Some, refl, sym, ap, ◌∙◌, inl, inr, ⊎_elim, arith, length-append}
-use Rattle.std.proofs.lemmas.List.{append-nil, append_cancel_left, nil_from_length}
+-- A client that is idle: whatever happens meanwhile, the client is ready for an operation, and is idle again after the operation.
+use Rattle.std.proofs.Common.{◌≡◌, ◌⊎◌, ℕ, List, [], ◌∷◌, ◌++◌, drop, length, Some, refl, sym, ap, ◌∙◌, inl, inr, ⊎_elim}
+use Rattle.std.proofs.lemmas.List.{append-nil, append_cancel_left}
 use Rattle.chaos_file.specs.Store.{Files}
 use Rattle.chaos_lab.specs.declared.side.Side.TheVariants.{A}
 use Rattle.chaos_net.specs.Net.{Name, Story}
 use Rattle.chaos_net.specs.Present.{read_of, written_of}
 use Rattle.file_copy.specs.Copy.{logged_in}
 use Rattle.file_lab.specs.Bodies.{data_bodies}
-use Rattle.file_net.specs.History.{Transaction, Service, new_service, after_all, commands_by, replies_to}
-use Rattle.file_net.specs.FileNet.{FileNet, FileEvent, FileRun, FileReached, IsServedBy}
-use Rattle.file_net.specs.Copies.{IsClient, IsReady}
+use Rattle.file_net.specs.History.{Transaction, Service, new_service, after_all, commands_by}
+use Rattle.file_net.specs.FileNet.{FileNet, FileEvent, FileRun, FileReached}
+use Rattle.file_net.specs.Operations.{IsClient, IsReady}
 use Rattle.file_lab.proofs.BodyLists.{begins_split}
 use Rattle.file_net.proofs.Lists.{commands_append}
+use Rattle.file_net.proofs.Clients.{answered_once}
 use Rattle.file_net.proofs.Kept.{file_net, histories_grow}
-use Rattle.file_net.proofs.Parts.{after_append, as_many, head_eq, silent, tail_eq}
+use Rattle.file_net.proofs.Parts.{after_append, head_eq, silent, tail_eq}
 use Rattle.file_end_to_end.specs.World.{IsIdle, heard_by, said_by}
 
 -- ---- lists
@@ -34,30 +35,13 @@ two_prefixes {X} (x ∷ xs) (y ∷ ys) us vs e =
 -- ---- all that was said is served
 
 module _ (m : Files) (f : FileNet) (a c : Name) (s : Story) (reached : FileReached m f) (client : IsClient f a s c) where
-  -- where as many replies were heard as commands were said
-  served_all : length (data_bodies s.end.read) ≡ length (data_bodies s.end.written)
-      → commands_by c f.history ≡ data_bodies s.end.written
-  served_all alike =
-      let served : IsServedBy f s c = (file_net m f reached).1 a s c client.there client.asked client.peer in
-      let heard = data_bodies s.end.read in
-      let said = data_bodies s.end.written in
-      let more = drop (length heard) (replies_to c f.history) in
-      let rest = drop (length (commands_by c f.history)) said in
-      let replies : replies_to c f.history ≡ heard ++ more = begins_split heard (replies_to c f.history) served.replies in
-      let commands : said ≡ commands_by c f.history ++ rest = begins_split (commands_by c f.history) said served.commands in
-      let one : length (replies_to c f.history) ≡ length heard + length more = ap length replies ∙ length-append heard more in
-      let two : length said ≡ length (commands_by c f.history) + length rest =
-      ap length commands ∙ length-append (commands_by c f.history) rest in
-      let size = as_many c f.history in
-      let none : rest ≡ [] = nil_from_length rest (omega (arith, one, two, size, alike)) in
-      sym (commands ∙ ap (λ l. commands_by c f.history ++ l) none ∙ append-nil (commands_by c f.history))
-
+  -- if the user has read as many replies as the user wrote commands
   pub all_served : length (heard_by f a) ≡ length (said_by f a) → commands_by c f.history ≡ said_by f a
   all_served answered =
       let here : (f.net A).story a ≡ Some s = client.there in
-      served_all
+      (answered_once m f a c s reached client
       (ap (λ o. length (data_bodies (read_of o))) (sym here) ∙ answered
-      ∙ ap (λ o. length (data_bodies (written_of o))) here)
+      ∙ ap (λ o. length (data_bodies (written_of o))) here)).0
       ∙ ap (λ o. data_bodies (written_of o)) (sym here)
 
   session_is : f.service.session c ≡ (after_all (new_service m) f.history).session c
@@ -65,7 +49,7 @@ module _ (m : Files) (f : FileNet) (a c : Name) (s : Story) (reached : FileReach
 
   -- ---- ready
 
-  -- it is ready for a copy, whatever happens meanwhile
+  -- the client is ready for an operation, whatever happens meanwhile
   pub idle_is_ready : (g : FileNet) (events : List FileEvent) (user : List ℕ) → FileRun f events g → IsIdle f a c user
       → IsReady m g c (said_by f a) user
   idle_is_ready g events user run idle before later is said =

@@ -1,21 +1,27 @@
 -- Runs of file events at one side, of a kind.
-use Rattle.std.proofs.Common.{◌≡◌, ℕ, zero, suc, Bool, true, false, List, [], ◌∷◌, ◌++◌, length, map, Option, Some, None, Ok, Err, refl, sym, ap, ◌∙◌, subst, append_assoc, if◌then◌else◌}
+use Rattle.std.proofs.Common.{◌≡◌, ℕ, zero, suc, ◌+◌, ◌<◌, ◌≤◌, ◌==◌, Bool, true, false, List, [], ◌∷◌, ◌++◌, length, map, Option, Some, None, Ok, Err, refl, sym, ap, ◌∙◌, subst, append_assoc, arith, if◌then◌else◌}
+use Rattle.std.proofs.lemmas.Bool.{eqb-true, ne_eqb}
 use Rattle.std.specs.Prelude.{slice_get, ⊤}
 use Rattle.std.specs.List.{AllByRecursion}
 use Rattle.std.proofs.lemmas.List.{append-nil}
 use Rattle.chaos_packet.specs.Packet.{PacketView}
-use Rattle.chaos_conn.specs.Act.{Accept, Close}
+use Rattle.chaos_conn.specs.Act.{Call, Accept, Close, Tick}
+use Rattle.chaos_conn.specs.State.{is_ended}
+use Rattle.chaos_host.specs.Acted.{slot_after_call}
+use Rattle.chaos_host.specs.declared.slot.Slot.{Slot}
 use Rattle.chaos_host.specs.Calls.{host_end}
-use Rattle.chaos_host.specs.Deeds.{HostEvent}
+use Rattle.chaos_host.specs.Deeds.{HostEvent, Deed, by_ended, by_named, by_used, deed_of}
+use Rattle.chaos_host.specs.Deeds.Deed.{Nothing, Does}
 use Rattle.chaos_host.specs.Deeds.HostEvent.{Comes, Calls, Ends, Releases, Ticks}
 use Rattle.chaos_host.specs.Deliver.{host_deliver}
-use Rattle.chaos_host.specs.Slot.{named_slot}
-use Rattle.chaos_host.specs.View.{HostView, id_at}
+use Rattle.chaos_host.specs.Slot.{index_of as index_in, is_free, is_used, named_slot, place_of}
+use Rattle.chaos_host.specs.View.{HostView, id_at, id_in}
 use Rattle.chaos_link.specs.Loads.{packets_of}
 use Rattle.chaos_lab.specs.declared.side.Side.{Side}
 use Rattle.chaos_lab.specs.declared.side.Side.TheVariants.{A, B}
 use Rattle.chaos_lab.specs.Machine.{other}
-use Rattle.chaos_net.specs.Net.{Sent, Net, IsOwn, after_events}
+use Rattle.chaos_net.specs.Net.{Sent, Station, Net, IsOwn, after_deed, after_events, after_slot}
+use Rattle.chaos_net.proofs.Lists.{some_eq}
 use Rattle.chaos_net.specs.Net as net
 use Rattle.chaos_net.specs.Net.NetEvent.{At, Arrives}
 use Rattle.chaos_node.specs.Arrive.{Arrival, deliver_effect}
@@ -225,3 +231,173 @@ ended f silence sessions now =
     (λ g. slots_led IsEnding B release_at (λ place k. released k (id_at (k.net B).host place)) size g))
     (λ g. slots_led IsEnding B (tick_at now)
     (λ place k. (file_happens k (Nets (At B (Ticks place now))), tick_led IsEnding B k now place refl tt)) size g)
+
+-- ---- how much the turns of B's slots grow in the end of a turn
+
+-- one at this place
+abbrev pub here : ℕ → ℕ → ℕ
+here place p = if p == place then 1 else 0
+
+-- one at each of the first so many places
+abbrev pub before : ℕ → ℕ → ℕ
+before zero p = 0
+before (suc n) p = before n p + here n p
+
+-- The turns of B's slots grew by no more than this.
+abbrev pub Grows : (ℕ → ℕ) → FileNet → FileNet → Type 0
+Grows most f g = (p : ℕ) → (g.net B).turn p ≤ (f.net B).turn p + most p
+
+-- a deed in this slot, or none
+abbrev IsDeedAt : ℕ → Deed → Type 0
+IsDeedAt place Nothing = ⊤
+IsDeedAt place (Does at call) = at ≡ place
+
+grows_none : (f : FileNet) (most : ℕ → ℕ) → Grows most f f
+grows_none f most p = omega arith
+
+if_more : (b : Bool) (n : ℕ) → (if b then n + 1 else n) ≤ n + 1
+if_more true n = omega arith
+if_more false n = omega arith
+
+slot_grows : (st : Station) (place : ℕ) (call : Call) (o : Option Slot) (p : ℕ)
+    → (after_slot st place call None o).turn p ≤ st.turn p + here place p
+slot_grows st place call None p = omega arith
+slot_grows st place call (Some slot) p = by (p == place) refl
+  where
+    more : ℕ
+    more = if is_free (slot_after_call slot call) then st.turn place + 1 else st.turn place
+
+    by : (b : Bool) → (p == place) ≡ b
+        → (if b then (if is_free (slot_after_call slot call) then st.turn place + 1 else st.turn place) else st.turn p)
+        ≤ st.turn p + (if b then 1 else 0)
+    by true is =
+        subst
+        (λ q. (if is_free (slot_after_call slot call) then st.turn place + 1 else st.turn place) ≤ st.turn q + 1)
+        (sym (eqb-true p place is)) (if_more (is_free (slot_after_call slot call)) (st.turn place))
+    by false is = omega arith
+
+deed_grows : (st : Station) (place : ℕ) (d : Deed) → IsDeedAt place d → (p : ℕ)
+    → (after_deed st d None).turn p ≤ st.turn p + here place p
+deed_grows st place Nothing is p = omega arith
+deed_grows st place (Does at call) is p =
+    subst (λ q. (after_slot st at call None (slice_get st.host.slots at)).turn p ≤ st.turn p + here q p) is
+    (slot_grows st at call (slice_get st.host.slots at) p)
+
+-- an event of B's own host, whose deed is in this slot
+event_grows : (f : FileNet) (event : HostEvent) (place : ℕ) → IsDeedAt place (deed_of (f.net B).host event)
+    → Grows (here place) f (file_happens f (Nets (At B event)))
+event_grows f event place is = deed_grows (f.net B) place (deed_of (f.net B).host event) is
+
+-- the index of the connection at a place names this place
+index_at : (place : ℕ) (o : Option Slot) (id : ℕ) → place < 255 → id_in place o ≡ Some id → place_of id ≡ place
+index_at place None id few is = let no : None ≡ Some id = is in absurd (cc)
+index_at place (Some slot) id few is = by (is_used slot) is
+  where
+    by : (b : Bool) → (if b then Some (index_in place slot) else None) ≡ Some id → place_of id ≡ place
+    by true is =
+        let same : index_in place slot ≡ id = some_eq is in
+        ap place_of (sym same) ∙ omega (arith, few)
+    by false is = let no : None ≡ Some id = is in absurd (cc)
+
+named_at : (place id : ℕ) (call : Call) (o : Option Slot) → place_of id ≡ place → IsDeedAt place (by_named id call o)
+named_at place id call None is = tt
+named_at place id call (Some slot) is = is
+
+if_at : (place : ℕ) (b : Bool) (d : Deed) → IsDeedAt place d → IsDeedAt place (if b then d else Nothing)
+if_at place true d is = is
+if_at place false d is = tt
+
+ended_at : (place id : ℕ) (o : Option Slot) → place_of id ≡ place → IsDeedAt place (by_ended id o)
+ended_at place id None is = tt
+ended_at place id (Some slot) is = if_at place (is_ended slot.conn.state) (Does (place_of id) (Close [])) is
+
+used_at : (place : ℕ) (call : Call) (o : Option Slot) → IsDeedAt place (by_used place call o)
+used_at place call None = tt
+used_at place call (Some slot) = if_at place (is_used slot) (Does place call) refl
+
+if_grows : (f : FileNet) (id place : ℕ) (over : Bool) → place_of id ≡ place → Grows (here place) f (closed_if f id over).0
+unfolding closed_if
+if_grows f id place true is =
+    event_grows f (Ends id (Close [])) place (named_at place id (Close []) (named_slot (f.net B).host.slots id) is)
+if_grows f id place false is = grows_none f (here place)
+
+close_grows : (f : FileNet) (eof late : Bool) (place : ℕ) (o : Option ℕ)
+    → ((id : ℕ) → o ≡ Some id → place_of id ≡ place) → Grows (here place) f (closed_by f eof late o).0
+unfolding closed_by
+close_grows f eof late place None at = grows_none f (here place)
+close_grows f eof late place (Some id) at =
+    if_grows f id place (is_over_in eof late (named_slot (f.net B).host.slots id)) (at id refl)
+
+release_grows : (f : FileNet) (place : ℕ) (o : Option ℕ) → ((id : ℕ) → o ≡ Some id → place_of id ≡ place)
+    → Grows (here place) f (released f o).0
+unfolding released
+release_grows f place None at = grows_none f (here place)
+release_grows f place (Some id) at =
+    event_grows f (Releases id) place (ended_at place id (named_slot (f.net B).host.slots id) (at id refl))
+
+then_grows : (a b c m n : ℕ) → b ≤ c + m → a ≤ b + n → a ≤ c + (m + n)
+then_grows a b c m n one two = omega (arith, one, two)
+
+slots_grow : (phase : ℕ → HostView → Effect)
+    (each : (place : ℕ) (f : FileNet) → Leads IsEnding B f (phase place (f.net B).host))
+    → ((place : ℕ) (f : FileNet) → place < 255 → Grows (here place) f (each place f).0) → (size : ℕ) → size ≤ 255
+    → (f : FileNet) → Grows (before size) f (slots_led IsEnding B phase each size f).0
+unfolding slots_led then_led
+slots_grow phase each grows zero few f p = omega arith
+slots_grow phase each grows (suc size) few f p =
+    let g : FileNet = (slots_led IsEnding B phase each size f).0 in
+    then_grows (((each size g).0.net B).turn p) ((g.net B).turn p) ((f.net B).turn p) (before size p) (here size p)
+    (slots_grow phase each grows size (omega (arith, few)) f p) (grows size g (omega (arith, few)) p)
+
+before_none : (n p : ℕ) → n ≤ p → before n p ≡ 0
+before_none zero p past = refl
+before_none (suc n) p past =
+    let rest = before_none n p (omega (arith, past)) in
+    let apart : (p == n) ≡ false = ne_eqb p n (λ e. absurd (omega (arith, past, e))) in
+    (λ j. rest j + (if apart j then 1 else 0))
+
+before_one : (n p : ℕ) → before n p ≤ 1
+before_one zero p = omega arith
+before_one (suc n) p = by (p == n) refl (before_one n p)
+  where
+    by : (b : Bool) → (p == n) ≡ b → before n p ≤ 1 → before n p + (if b then 1 else 0) ≤ 1
+    by true is rest =
+        let e : p ≡ n = eqb-true p n is in
+        let none = before_none n p (omega (arith, e)) in
+        omega (arith, none)
+    by false is rest = omega (arith, rest)
+
+-- by three in the end of a turn
+pub ended_grows : (f : FileNet) (silence : Option ℕ) (sessions : List Serving) (now : ℕ)
+    → length (f.net B).host.slots ≤ 255 → Grows (λ p. 3) f (ended f silence sessions now).0
+unfolding ended then_led closed closed_by
+ended_grows f silence sessions now few p =
+    let size = length (f.net B).host.slots in
+    let closing : (place : ℕ) (g : FileNet) → Leads IsEnding B g (close_at silence now sessions place (g.net B).host) =
+    λ place g. closed g silence now (serving_at sessions place) (id_at (g.net B).host place) in
+    let releasing : (place : ℕ) (g : FileNet) → Leads IsEnding B g (release_at place (g.net B).host) =
+    λ place k. released k (id_at (k.net B).host place) in
+    let ticking : (place : ℕ) (g : FileNet) → Leads IsEnding B g (tick_at now place (g.net B).host) =
+    λ place k. (file_happens k (Nets (At B (Ticks place now))), tick_led IsEnding B k now place refl tt) in
+    let f1 : FileNet = (slots_led IsEnding B (close_at silence now sessions) closing size f).0 in
+    let f2 : FileNet = (slots_led IsEnding B release_at releasing size f1).0 in
+    let f3 : FileNet = (slots_led IsEnding B (tick_at now) ticking size f2).0 in
+    let one = slots_grow (close_at silence now sessions) closing
+    (λ place g small.
+    close_grows g (serving_at sessions place).eof (is_late silence (serving_at sessions place).since now) place
+    (id_at (g.net B).host place) (λ id is. index_at place (slice_get (g.net B).host.slots place) id small is))
+    size few f p in
+    let two = slots_grow release_at releasing
+    (λ place g small.
+    release_grows g place (id_at (g.net B).host place)
+    (λ id is. index_at place (slice_get (g.net B).host.slots place) id small is))
+    size few f1 p in
+    let three = slots_grow (tick_at now) ticking
+    (λ place g small.
+    event_grows g (Ticks place now) place (used_at place (Tick now) (slice_get (g.net B).host.slots place)))
+    size few f2 p in
+    three_grow ((f.net B).turn p) ((f1.net B).turn p) ((f2.net B).turn p) ((f3.net B).turn p) (before size p)
+    (before_one size p) one two three
+  where
+    three_grow : (a b c d n : ℕ) → n ≤ 1 → b ≤ a + n → c ≤ b + n → d ≤ c + n → d ≤ a + 3
+    three_grow a b c d n most one two three = omega (arith, most, one, two, three)

@@ -96,13 +96,14 @@ pub record IsAt {S : Type 0} (contents : S → Option Files) (s : Server S) (f :
   pub kept : (p : ℕ) → p < k → p < length s.host.slots
       → IsKept (f.net B).turn (f.net B).story f.service.session p (serving_at s.sessions p)
 
--- any event of serving
-abbrev pub Any : FileEvent → Type 0
-Any event = ⊤
+-- an event of serving
+abbrev pub IsServing : FileEvent → Type 0
+IsServing (Serves id now way) = ⊤
+IsServing event = ⊥
 
 -- the same host, and the same packets in other lots
-told_led : (f g : FileNet) (e k : Effect) → k.host ≡ e.host → packets_of k.lots ≡ packets_of e.lots → IsLed Any B f g e
-    → IsLed Any B f g k
+told_led : (f g : FileNet) (e k : Effect) → k.host ≡ e.host → packets_of k.lots ≡ packets_of e.lots → IsLed IsServing B f g e
+    → IsLed IsServing B f g k
 told_led f g e k host lots led = record {
   events = led.events;
   run = led.run;
@@ -117,7 +118,7 @@ module _ {S : Type 0} (contents : S → Option Files) (may_give : S → List ℕ
   -- one slot was served
   record PlaceLed (f : FileNet) (s t : Server S) (lots : List (List PacketView)) (k : ℕ) : Type 0 where
     net : FileNet
-    led : IsLed Any B f net (record { host = t.host; lots = lots })
+    led : IsLed IsServing B f net (record { host = t.host; lots = lots })
     at : IsAt contents t net (suc k)
     size : length t.host.slots ≡ length s.host.slots
 
@@ -138,7 +139,7 @@ module _ {S : Type 0} (contents : S → Option Files) (may_give : S → List ℕ
       subst (λ (u : Server S). PlaceLed f s u lots k) (sym d.0) (record {
         net = f;
         led = told_led f f (record { host = (f.net B).host; lots = [] }) (record { host = s.host; lots = lots }) (sym at.host)
-            (ap packets_of d.1) (none_led Any B f);
+            (ap packets_of d.1) (none_led IsServing B f);
         at = record {
           host = at.host;
           files = at.files;
@@ -357,7 +358,7 @@ module _ {S : Type 0} (contents : S → Option Files) (may_give : S → List ℕ
           net = two.place.net;
           led = told_led f two.place.net (record { host = t.host; lots = first ∷ last ∷ [] }) (record { host = t.host; lots = packets ∷ [] }) refl
               (ap (λ (ps : List PacketView). ps ++ []) serves.5 ∙ append_assoc first last [])
-              (both_led Any B f one.place.net two.place.net (record { host = mid.host; lots = first ∷ [] }) (record { host = t.host; lots = last ∷ [] }) led two.place.led);
+              (both_led IsServing B f one.place.net two.place.net (record { host = mid.host; lots = first ∷ [] }) (record { host = t.host; lots = last ∷ [] }) led two.place.led);
           at = two.place.at;
           size = two.place.size ∙ size;
         };
@@ -418,7 +419,7 @@ module _ {S : Type 0} (contents : S → Option Files) (may_give : S → List ℕ
 
   pub record SlotsLed (f : FileNet) (s t : Server S) (lots : List (List PacketView)) (k : ℕ) : Type 0 where
     pub net : FileNet
-    pub led : IsLed Any B f net (record { host = t.host; lots = lots })
+    pub led : IsLed IsServing B f net (record { host = t.host; lots = lots })
     pub at : IsAt contents t net k
     pub size : length t.host.slots ≡ length s.host.slots
 
@@ -429,7 +430,7 @@ module _ {S : Type 0} (contents : S → Option Files) (may_give : S → List ℕ
       subst (λ (u : Server S). SlotsLed f s u lots zero) (sym serves.0) (record {
         net = f;
         led = told_led f f (record { host = (f.net B).host; lots = [] }) (record { host = s.host; lots = lots }) (sym at.host)
-            (ap packets_of serves.1) (none_led Any B f);
+            (ap packets_of serves.1) (none_led IsServing B f);
         at = at;
         size = refl;
       })
@@ -446,7 +447,7 @@ module _ {S : Type 0} (contents : S → Option Files) (may_give : S → List ℕ
         net = two.net;
         led = told_led f two.net (record { host = t.host; lots = first ++ last }) (record { host = t.host; lots = lots }) refl
             (ap packets_of serves.5)
-            (both_led Any B f one.net two.net (record { host = mid.host; lots = first }) (record { host = t.host; lots = last }) one.led two.led);
+            (both_led IsServing B f one.net two.net (record { host = mid.host; lots = first }) (record { host = t.host; lots = last }) one.led two.led);
         at = two.at;
         size = two.size ∙ one.size;
       }

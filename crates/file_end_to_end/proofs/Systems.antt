@@ -28,10 +28,10 @@ use Rattle.file_server.specs.Sessions.{Serving, serving_at}
 use Rattle.file_end_to_end.specs.Program.{Program, Client, Serves, program_host, program_turns, program_upon}
 use Rattle.file_net.specs.FileNet.{FileNet, FileEvent, Nets, FileRun, FileReached, new_file_net, file_happens}
 use Rattle.file_net.proofs.Kept.{reached_is_sound, file_net}
-use Rattle.file_net.proofs.Clients.{copies_among}
+use Rattle.file_net.proofs.Clients.{operations_among}
 use Rattle.file_end_to_end.specs.Server.{IsKept, IsServer, TurnIsRun}
-use Rattle.file_end_to_end.specs.System.{IsClient, IsServerOf, FileStandsFor, StaysSame, MayStep, FileSystemsStay, IsNewProgram, NewFileSystemsStand, FileSystemsHold, FileSystemsCopy}
-use Rattle.file_end_to_end.proofs.Led.{IsLed, file_run_through, own_led}
+use Rattle.file_end_to_end.specs.System.{IsClient, IsServerOf, FileStandsFor, StaysSame, MayStep, FileSystemsStay, IsNewProgram, NewFileSystemsStand, FileSystemsHold, FileSystemsServe}
+use Rattle.file_end_to_end.proofs.Led.{IsLed, Grows, file_run_through, own_led}
 use Rattle.file_end_to_end.proofs.Client.{IsOfNet, IsTurning, client_led, net_service, turning_of_net}
 use Rattle.file_end_to_end.proofs.Steady.{event_size}
 use Rattle.file_end_to_end.proofs.Turn.{turn_is_run}
@@ -106,9 +106,9 @@ module _ {S : Type 0} (contents : S → Option Files) (may_give : S → List ℕ
 
   -- ---- a turn of the server
 
-  -- A does nothing in it
+  -- A does nothing in it, and the turns of B's slots grow by three at most
   abbrev pub LeavesClient : FileNet → FileNet → List FileEvent → Type 0
-  LeavesClient f g events = g.net A ≡ f.net A
+  LeavesClient f g events = (g.net A ≡ f.net A) × Grows (λ p. 3) f g
 
   pub server_turns : (s t : System (Program S)) (f : FileNet) (number : Option ℕ) (start now : ℕ) (p q : Program S)
       → (s B).program ≡ p → (t B).program ≡ q → FileStandsFor contents m s f
@@ -125,7 +125,7 @@ module _ {S : Type 0} (contents : S → Option Files) (may_give : S → List ℕ
       let r = turn_is_run contents may_give count turn.0 turn.1 m f (numbers_of (s A).posts number) (handed (s A).posts number) start now
       srv left one.lots (reached_is_sound m f st.reached) server from fresh turn.2 in
       let g : FileNet = r.0 in
-      moved_on (LeavesClient f) s t f g B r.1.events left.host one.lots r.1.far st r.1.run r.1.server.host r.1.sent r.1.far
+      moved_on (LeavesClient f) s t f g B r.1.events left.host one.lots (r.1.far, r.2) st r.1.run r.1.server.host r.1.sent r.1.far
       (ap program_host (sym qs)) (all_posted f B (s B) (t B) (handed (s A).posts number) start now one (st.net.sent B)) far
       (subst (λ (z : Seat (Program S)). IsClient z.program) (sym far) st.client)
       (subst (IsServerOf contents g) (sym qs) r.1.server)
@@ -312,6 +312,6 @@ module _ {S : Type 0} (contents : S → Option Files) (may_give : S → List ℕ
   pub file_systems_hold : FileSystemsHold contents may_give count m
   file_systems_hold s f st = file_net m f st.reached
 
-  pub file_systems_copy : FileSystemsCopy contents may_give count m
-  file_systems_copy s f a c story name copies st client named can talks =
-      copies_among m f a c story name copies st.reached client named can talks
+  pub file_systems_serve : FileSystemsServe contents may_give count m
+  file_systems_serve s f a c story name operations st client named can talks =
+      operations_among m f a c story name operations st.reached client named can talks

@@ -1,5 +1,6 @@
 -- A server's turn is a run of file events.
 use Rattle.std.proofs.Common.{◌≡◌, ℕ, ◌<◌, List, [], ◌∷◌, ◌++◌, length, Option, Some, sym, ap, ◌∙◌, subst, append_assoc, arith}
+use Rattle.std.specs.Prelude.{⊤}
 use Rattle.std.specs.List.{AllByRecursion}
 use Rattle.chaos_packet.specs.Packet.{PacketView}
 use Rattle.chaos_file.specs.Store.{Files, change}
@@ -19,13 +20,17 @@ use Rattle.file_server.specs.Slots.{end_phases, given_back}
 use Rattle.file_server.specs.Turn.{IsTurn}
 use Rattle.file_server.specs.declared.serve_mode.ServeMode.{ServeMode}
 use Rattle.file_end_to_end.specs.Turns.{accepts_upon}
-use Rattle.file_net.specs.FileNet.{FileNet, FileEvent}
-use Rattle.file_net.proofs.Kept.{IsSound, run_keeps, reached_is_sound}
+use Rattle.file_net.specs.FileNet.{FileNet, FileEvent, Nets, Serves, FileRun, file_happens}
+use Rattle.file_net.proofs.Kept.{IsSound, event_keeps, run_keeps, reached_is_sound}
 use Rattle.file_end_to_end.specs.Server.{name_at, IsOld, IsServer, TurnIsRun, ServerTurnsAreFileRuns}
-use Rattle.file_end_to_end.proofs.Led.{IsArriving, IsEnding, IsLed, Leads, arrived, ended, both_led}
+use Rattle.file_end_to_end.proofs.Led.{IsArriving, IsEnding, IsLed, Leads, Grows, arrived, ended, ended_grows, both_led}
 use Rattle.file_end_to_end.proofs.Slots.{id_used, given_size, given_used, given_id}
-use Rattle.file_end_to_end.proofs.Steady.{arrivals_steady, arrivals_service, endings_keep}
-use Rattle.file_end_to_end.proofs.Serve.{Any, IsAt, kept_ready, steady_ready, slots_served}
+use Rattle.file_end_to_end.proofs.Steady.{arrivals_steady, arrivals_service, endings_keep, serves_steady}
+use Rattle.file_end_to_end.proofs.Serve.{IsServing, IsAt, kept_ready, steady_ready, slots_served}
+
+-- any event
+abbrev Any : FileEvent → Type 0
+Any event = ⊤
 
 all_any : (events : List FileEvent) → AllByRecursion Any events
 all_any [] = tt
@@ -42,12 +47,21 @@ any_led P f g e led = record {
   far = led.far;
 }
 
+-- serving leaves the turns
+serving_turns : (m : Files) (events : List FileEvent) (f g : FileNet) → IsSound m f → FileRun f events g
+    → AllByRecursion IsServing events → (p : ℕ) → (g.net B).turn p ≡ (f.net B).turn p
+serving_turns m [] f g h is all p = ap (λ (z : FileNet). (z.net B).turn p) is
+serving_turns m (Serves id now way ∷ events) f g h r all p =
+    serving_turns m events (file_happens f (Serves id now way)) g (event_keeps m f (Serves id now way) r.0 h) r.1 all.1 p
+    ∙ (serves_steady f id now way h.reached).turns p
+serving_turns m (Nets event ∷ events) f g h r all p = absurd all.0
+
 module _ {S : Type 0} (contents : S → Option Files) (may_give : S → List ℕ → ℕ → List ℕ → Type 0) (count : S → ℕ) where
   pub turn_is_run : (mode : ServeMode) (silence : Option ℕ) (m : Files) (f : FileNet) (numbers : List ℕ) (came : Arrival) (start now : ℕ) (s t : Server S)
       (lots : List (List PacketView)) → IsSound m f → IsServer contents s f → ComeFrom f.net B numbers came
       → ComeFresh (accepts_upon start now) f.net B now numbers came
       → IsTurn (change contents may_give count) mode silence came start now s t lots
-      → (g : FileNet) × TurnIsRun contents f g t lots
+      → (g : FileNet) × TurnIsRun contents f g t lots × Grows (λ p. 3) f g
   turn_is_run mode silence m f numbers came start now s t lots h server from fresh turn =
       -- what came
       let arrival : Effect = arrive_at_server came start now s.host in
@@ -82,8 +96,10 @@ module _ {S : Type 0} (contents : S → Option Files) (may_give : S → List ℕ
       let size2 : length served.host.slots ≡ length s.host.slots = two.size ∙ size1 in
       -- the end
       let end : Effect = end_phases silence served.sessions now served.host in
-      let last : Leads IsEnding B f2 end =
-      subst (λ v. Leads IsEnding B f2 (end_phases silence served.sessions now v)) two.at.host (ended f2 silence served.sessions now) in
+      let few = ((reached_is_played f2.net h2.reached) B).station.host.table.few in
+      let last : (g : FileNet) × IsLed IsEnding B f2 g end × Grows (λ p. 3) f2 g =
+      subst (λ v. (g : FileNet) × IsLed IsEnding B f2 g (end_phases silence served.sessions now v) × Grows (λ p. 3) f2 g) two.at.host
+      (let e = ended f2 silence served.sessions now in (e.0, e.1, ended_grows f2 silence served.sessions now few)) in
       let g : FileNet = last.0 in
       let h3 = run_keeps m last.1.events f2 g last.1.run h2 in
       let keeps = endings_keep m last.1.events f2 g h2 last.1.run last.1.kinds in
@@ -93,7 +109,8 @@ module _ {S : Type 0} (contents : S → Option Files) (may_give : S → List ℕ
       let left : List Serving = given_back end.host (length end.host.slots) served.sessions in
       let all =
       both_led Any B f f2 g (record { host = served.host; lots = arrival.lots ++ turn.replies }) end
-      (both_led Any B f f1 f2 arrival (record { host = served.host; lots = turn.replies }) (any_led IsArriving f f1 arrival first.1) two.led)
+      (both_led Any B f f1 f2 arrival (record { host = served.host; lots = turn.replies }) (any_led IsArriving f f1 arrival first.1)
+      (any_led IsServing f1 f2 (record { host = served.host; lots = turn.replies }) two.led))
       (any_led IsEnding f2 g end last.1) in
       let station = ((reached_is_played g.net h3.reached) B).station in
       let is_server : IsServer contents (record served { host = end.host; sessions = left }) g = record {
@@ -131,8 +148,14 @@ module _ {S : Type 0} (contents : S → Option Files) (may_give : S → List ℕ
               (ap packets_of (append_assoc arrival.lots turn.replies end.lots ∙ sym turn.out));
           far = all.far;
         },
+        λ p.
+            let one = steady.turns p in
+            let same = serving_turns m two.led.events f1 f2 h1 two.led.run two.led.kinds p in
+            let most = last.2 p in
+            omega (arith, one, same, most),
       )
 
   pub server_turns_are_file_runs : ServerTurnsAreFileRuns contents may_give count
   server_turns_are_file_runs m f numbers came start now s t lots reached server from fresh turn =
-      turn_is_run turn.0 turn.1 m f numbers came start now s t lots (reached_is_sound m f reached) server from fresh turn.2
+      let r = turn_is_run turn.0 turn.1 m f numbers came start now s t lots (reached_is_sound m f reached) server from fresh turn.2 in
+      (r.0, r.1)

@@ -1,8 +1,9 @@
 -- What events make of the turns of B's slots, and of what its server keeps for them.
-use Rattle.std.proofs.Common.{◌≡◌, ℕ, suc, ◌+◌, ◌==◌, Bool, true, false, if◌then◌else◌, [], Option, Some, None, refl, sym, ap, ◌∙◌, subst, ⊎_elim, arith}
-use Rattle.std.specs.Prelude.{slice_get, ⊤}
+use Rattle.std.proofs.Common.{◌≡◌, ℕ, suc, ◌+◌, ◌==◌, Bool, true, false, if◌then◌else◌, List, [], length, Option, Some, None, refl, sym, ap, ◌∙◌, subst, ⊎_elim, arith}
+use Rattle.std.specs.Prelude.{slice_get, nat_lt, ⊤}
 use Rattle.std.proofs.lemmas.Bool.{false≢true, cond-true, cond-false, cases_Bool, eqb-true}
 use Rattle.chaos_packet.specs.Packet.{PacketView}
+use Rattle.chaos_packet.specs.declared.limits.TheConstants.{MAX_DATA}
 use Rattle.chaos_conn.specs.State.{is_inactive, is_ended}
 use Rattle.chaos_conn.specs.Act.{Call}
 use Rattle.chaos_conn.specs.Act.Call.{Request, TakeRequest, Accept, Answer, Reject, Deliver, Write, Unc, Read, FinishRead, Announce, Close, Tick}
@@ -11,12 +12,12 @@ use Rattle.chaos_file.specs.Session.{SessionView}
 use Rattle.chaos_host.specs.declared.slot.Slot.{Slot}
 use Rattle.chaos_host.specs.declared.route.Route.{Route}
 use Rattle.chaos_host.specs.declared.route.Route.TheVariants as to
-use Rattle.chaos_host.specs.Slot.{is_free, is_used, named_slot}
+use Rattle.chaos_host.specs.Slot.{free_place, is_free, is_used, named_slot}
 use Rattle.chaos_host.specs.View.{HostView, IsHost}
 use Rattle.chaos_host.specs.Acted.{slot_after_call}
 use Rattle.chaos_host.specs.Route.{route}
-use Rattle.chaos_host.specs.Deeds.{Deed, HostMade, IsDeed, FitsSlot, is_users, host_made, deed_of, deed_by, by_used, by_free, by_named, by_ended}
-use Rattle.chaos_host.specs.Deeds.HostEvent.{Comes, Calls, Ends, Releases, Ticks}
+use Rattle.chaos_host.specs.Deeds.{Deed, HostMade, IsDeed, FitsSlot, is_users, host_made, deed_of, deed_by, by_asking, by_lowest, by_used, by_free, by_named, by_ended}
+use Rattle.chaos_host.specs.Deeds.HostEvent.{Comes, Calls, Connects, Ends, Releases, Ticks}
 use Rattle.chaos_host.specs.Deeds.Deed.{Nothing, Does}
 use Rattle.chaos_host.proofs.Deeds.{has_deeds}
 use Rattle.chaos_host.proofs.InUse.{stays_in_use}
@@ -164,6 +165,26 @@ calls_turns own far h id call users from p =
     deed_turns own far h (deed_of own.host (Calls id call)) (host_made own.host (Calls id call))
     (has_deeds own.host (Calls id call) h.host users)
     (named_deed EndsNone id call (named_slot own.host.slots id) tt (users_end_none call users)) from p
+
+lowest_deed : (v : HostView) (peer : ℕ) (contact : List ℕ) (start now : ℕ) (o : Option ℕ)
+    → EndsNone (by_lowest v peer contact start now o)
+lowest_deed v peer contact start now None = tt
+lowest_deed v peer contact start now (Some place) =
+    if_deed EndsNone (nat_lt MAX_DATA (length contact)) Nothing _ tt
+    (if_deed EndsNone (peer == 0) Nothing _ tt (by_slot (slice_get v.slots place)))
+  where
+    by_slot : (o : Option Slot) → EndsNone (by_asking v place peer contact start now o)
+    by_slot None = tt
+    by_slot (Some slot) = refl
+
+pub connects_turns : (own far : Station) → IsStation own far → (peer : ℕ) (contact : List ℕ) (start now : ℕ)
+    (from : Option Name) (p : ℕ)
+    → (after_deed own (deed_of own.host (Connects peer contact start now)) from).turn p ≡ own.turn p
+connects_turns own far h peer contact start now from p =
+    deed_turns own far h (deed_of own.host (Connects peer contact start now))
+    (host_made own.host (Connects peer contact start now))
+    (has_deeds own.host (Connects peer contact start now) h.host tt)
+    (lowest_deed own.host peer contact start now (free_place own.host.slots)) from p
 
 -- ---- what is kept for the slots, where none begins
 

@@ -11,6 +11,7 @@ use Rattle.chaos_file.specs.Answer.{reply_to}
 use Rattle.chaos_file.specs.Error.{error_text}
 use Rattle.chaos_file.specs.Grammar.{parse_of}
 use Rattle.chaos_file.specs.Session.{SessionView, new_session, with_name}
+use Rattle.chaos_file.specs.Step.{file_step}
 use Rattle.chaos_file.specs.Store.{Files, change}
 use Rattle.chaos_host.specs.Deeds.{HostEvent, host_made}
 use Rattle.chaos_host.specs.Deeds.HostEvent.{Listens, Connects, Ticks, Calls as Asks}
@@ -70,7 +71,7 @@ is_no_error error is = let one : 76 ≡ 69 = is ∙ error_begins error in omega 
 
 -- by a new session
 abbrev IsDone : Files → List ℕ → Type 0
-IsDone m command = IsToldWork m new_session (Command command)
+IsDone m command = IsToldWork file_step m new_session (Command command)
 
 ann_done : (m : Files) → IsDone m (codes "1  LOGIN ANN")
 ann_done m = record {
@@ -137,7 +138,7 @@ abbrev after_step : Both → Step → Both
 after_step s (Turn A number start now) =
     client_left s (client_phases (handed s.server.posts number) now s.client.program)
 after_step s (Turn B number start now) =
-    serves_left s (server_left (handed s.client.posts number) start now s.server.program)
+    serves_left s (server_left file_step (handed s.client.posts number) start now s.server.program)
 after_step s (Calls A event) = called s event
 after_step s (Calls B event) = listened s event
 
@@ -155,8 +156,8 @@ abbrev IsStep : Both → Step → Type 0
 IsStep s (Turn A number start now) =
     AreRead s.client (client_phases (handed s.server.posts number) now s.client.program).lots
 IsStep s (Turn B number start now) =
-    AreRead s.server (server_left (handed s.client.posts number) start now s.server.program).lots
-    × AreTold now (length s.server.program.host.slots)
+    AreRead s.server (server_left file_step (handed s.client.posts number) start now s.server.program).lots
+    × AreTold file_step now (length s.server.program.host.slots)
     (with_host s.server.program (arrive_at_server (handed s.client.posts number) start now s.server.program.host).host)
 IsStep s (Calls A event) = IsOwn event
 IsStep s (Calls B event) = IsListening event
@@ -177,8 +178,8 @@ takes s (Turn A number start now) is = (
 takes s (Turn B number start now) is = (
   record {
     carriage = One;
-    lots = (server_left (handed s.client.posts number) start now s.server.program).lots;
-    turn = server_turn (handed s.client.posts number) start now s.server.program is.1;
+    lots = (server_left file_step (handed s.client.posts number) start now s.server.program).lots;
+    turn = server_turn file_step (handed s.client.posts number) start now s.server.program is.1;
     read = same_lists _ _ is.0;
     waiting = refl;
     posts = refl;

@@ -5,3 +5,6 @@ pub mod System
 pub mod World
 pub mod TwoClients
 pub mod Over
+pub mod Beginning
+pub mod FileGot
+pub mod Young

@@ -24,8 +24,9 @@ use Rattle.file_end_to_end.specs.Program.{Program, Client, Serves, program_host,
 use Rattle.file_net.specs.FileNet.{FileNet, FileEvent, FileRun, FileReached, HasOneHistory, ClientsAreServed}
 use Rattle.file_copy.specs.Ends.{login_command, login_reply}
 use Rattle.chaos_net.specs.Net.{Name, Story}
-use Rattle.file_net.specs.Copies as copy
-use Rattle.file_net.specs.Copies.{Talks, Copy, all_commands, all_replies, CanDoAll, AreCopied}
+use Rattle.file_net.specs.Operations as among
+use Rattle.file_copy.specs.Operation.{Operation, all_commands, all_replies, CanDoAll}
+use Rattle.file_net.specs.Operations.{Talks, AreDone}
 use Rattle.file_end_to_end.specs.Server.{IsServer}
 
 -- a client
@@ -94,12 +95,12 @@ module _ {S : Type 0} (contents : S → Option Files) (may_give : S → List ℕ
   FileSystemsHold =
       (s : System (Program S)) (f : FileNet) → FileStandsFor contents m s f → HasOneHistory m f × ClientsAreServed f
 
-  -- The law of whole files holds too. A client of A logged in, then copied files, one after another, and has read all
+  -- The law of operations holds too. A client of A logged in, then did operations, one after another, and has read all
   -- replies. Then each file that the client got is the file that the server had, and each file that the client put became
-  -- the file at that path.
-  abbrev pub FileSystemsCopy : Type 0
-  FileSystemsCopy =
-      (s : System (Program S)) (f : FileNet) (a c : Name) (story : Story) (name : List ℕ) (copies : List Copy)
-      → FileStandsFor contents m s f → copy.IsClient f a story c → is_name 1 MAX_NAME name ≡ true → CanDoAll copies
-      → Talks story [] [] (login_command name ∷ all_commands copies) (login_reply name ∷ all_replies copies)
-      → AreCopied m f.history c (login_command name ∷ []) copies
+  -- the file at that path. Each DELETE took the file away, and each RENAME moved the file.
+  abbrev pub FileSystemsServe : Type 0
+  FileSystemsServe =
+      (s : System (Program S)) (f : FileNet) (a c : Name) (story : Story) (name : List ℕ) (operations : List Operation)
+      → FileStandsFor contents m s f → among.IsClient f a story c → is_name 1 MAX_NAME name ≡ true → CanDoAll operations
+      → Talks story [] [] (login_command name ∷ all_commands operations) (login_reply name ∷ all_replies operations)
+      → AreDone m f.history c (login_command name ∷ []) operations

@@ -8,8 +8,8 @@
 --   +-------------------+    late, twice, out of order or never         +-------------+
 --
 -- A move is a step of the engine or a turn of the server. In a step the engine writes a command, reads a reply or takes a turn.
--- In a turn of either end the network hands over any datagram that the other end ever posted, or none. The law says what a copy
--- is worth, whatever the moves are, while each packet that comes is fresh.
+-- In a turn of either end the network hands over any datagram that the other end ever posted, or none. The law says what an
+-- operation is worth, whatever the moves are, while each packet that comes is fresh.
 use Rattle.std.specs.Prelude.{◌≡◌, ◌<◌, ◌⊎◌, ℕ, zero, suc, true, List, [], ◌∷◌, ◌++◌, length, map, replicate, Option, Some, None, ⊤}
 use Rattle.chaos_conn.specs.Config.{ConfigView, IsConfig}
 use Rattle.chaos_conn.specs.declared.state.State.TheVariants.{Open}
@@ -38,7 +38,8 @@ use Rattle.file_server.specs.Sessions.{new_serving}
 use Rattle.file_server.specs.declared.limits.TheConstants.{SERVER_CONNS}
 use Rattle.file_lab.specs.Bodies.{data_bodies}
 use Rattle.file_net.specs.FileNet.{FileNet, FileEvent, FileRun}
-use Rattle.file_net.specs.Copies.{Copy, CanDo, IsClient, IsCopied, commands_of, replies_of}
+use Rattle.file_copy.specs.Operation.{Operation, CanDo, CanDoAll, all_commands, all_replies, commands_of, replies_of}
+use Rattle.file_net.specs.Operations.{AreDone, IsClient, IsDone}
 use Rattle.file_end_to_end.specs.Program.{Program, Client, Serves}
 use Rattle.file_end_to_end.specs.System.{FileStandsFor}
 use Rattle.file_end_to_end.specs.Turns.{accepts_upon, server_host, server_turns}
@@ -136,19 +137,26 @@ pub record IsTalk (steps : List Step) (commands replies : List (List ℕ)) : Typ
 
 -- ---- the law
 
--- What holds for a connection since a file net f, in which the engine had taken none of its steps.
+-- What holds for a connection since a file net f, up to which the engine had written and read nothing in its steps.
 pub record IsServed {S : Type 0} (m : Files) (f : FileNet) (a c : Name) (w : World S) (g : FileNet) : Type 0 where
   -- the connection is still there
   pub calling : IsCalling w g a c
-  -- If the engine wrote exactly the commands of a copy and read exactly the replies, then the copy is made: a get has the bytes
-  -- that the store had at the path when the OPEN was served; a put put exactly its bytes at the path when the CLOSE was served.
-  -- After the copy the user is idle again.
-  pub copied : (copy : Copy) (user : List ℕ) → IsIdle f a c user → CanDo copy
-      → IsTalk w.steps (commands_of copy) (replies_of copy)
-      → IsCopied m g.history c (said_by f a) copy × IsIdle g a c user
+  -- If the engine wrote exactly the commands of an operation and read exactly the replies, then the operation is done: a get has
+  -- the bytes that the store had at the path when the OPEN was served; a put put exactly its bytes at the path when the CLOSE was
+  -- served; a DELETE took the file away, and a RENAME moved the file, when the command was served. After the operation the user is
+  -- idle again.
+  pub done : (operation : Operation) (user : List ℕ) → IsIdle f a c user → CanDo operation
+      → IsTalk w.steps (commands_of operation) (replies_of operation)
+      → IsDone m g.history c (said_by f a) operation × IsIdle g a c user
   -- If the engine wrote LOGIN, and nothing before, and read the reply, then the user is idle.
   pub logged : (user : List ℕ) → said_by f a ≡ [] → heard_by f a ≡ [] → is_name 1 MAX_NAME user ≡ true
       → IsTalk w.steps (login_command user ∷ []) (login_reply user ∷ []) → IsIdle g a c user
+  -- If the engine wrote LOGIN and then the commands of operations, and nothing before, and read exactly the replies, then all
+  -- these operations are done.
+  pub session : (user : List ℕ) (operations : List Operation) → said_by f a ≡ [] → heard_by f a ≡ [] → is_name 1 MAX_NAME user ≡ true
+      → CanDoAll operations
+      → IsTalk w.steps (login_command user ∷ all_commands operations) (login_reply user ∷ all_replies operations)
+      → AreDone m g.history c (login_command user ∷ []) operations
 
 module _ {S : Type 0} (contents : S → Option Files) (may_give : S → List ℕ → ℕ → List ℕ → Type 0) (count : S → ℕ)
     (m : Files) (p : Pace) where
@@ -163,7 +171,7 @@ module _ {S : Type 0} (contents : S → Option Files) (may_give : S → List ℕ
   -- Whatever both ends and the network do, a client that was opened is served.
   abbrev pub WorldsLast : Type 0
   WorldsLast = (k : ℕ) (w : World S) (f : FileNet) (a c : Name) → FileStandsFor contents m (system_of w) f
-      → IsCalling w f a c → w.steps ≡ [] → Lasts (IsServed m f a c) k w f
+      → IsCalling w f a c → IsTalk w.steps [] [] → Lasts (IsServed m f a c) k w f
 
 -- ---- the start
 

@@ -1,6 +1,6 @@
 //! FILE from end to end: a client's engine at one link, a FILE server at another link, and the
-//! datagrams between the two. The laws follow each turn and each datagram, and say what the client
-//! copies.
+//! datagrams between the two. The laws follow each turn and each datagram, and say what each
+//! operation of the client does to the files.
 //!
 //! The laws have these premises, and promise nothing of progress or of time:
 //!
@@ -10,15 +10,15 @@
 //!   does not. A disk may lose what was written to it.
 //! - B's owner only listens, and starts with a new server. Otherwise another user of B could answer
 //!   a client.
-//! - For a copy: the user is idle, so the user has read a reply to each earlier command. Otherwise
-//!   an earlier reply could be taken for a reply of this copy.
-//! - The engine asks for no other connection. Otherwise the commands would go to two sessions.
+//! - For an operation: the user is idle, so the user has read a reply to each earlier command.
+//!   Otherwise an earlier reply could be taken for a reply of this operation.
+//! - The engine asks for another connection only if no OPN came. Otherwise the commands would go to
+//!   two sessions.
 #![tactic(auto)]
 
 mod law;
-mod over;
 
 pub use law::{
-    law_file_systems, law_file_turns, law_programs, law_server_turns, law_two_clients, law_world,
+    law_done, law_file_systems, law_file_turns, law_programs, law_server_turns, law_two_clients,
+    law_world, law_world_gets, law_young,
 };
-pub use over::{get_over, put_over};

@@ -1,18 +1,16 @@
 -- A login, a put and a get among the commands of others.
-use Rattle.std.proofs.Common.{◌≡◌, ℕ, zero, suc, ◌+◌, ◌*◌, ◌≤◌, Bool, true, false, List, [], ◌∷◌, ◌++◌, length, Option, Some, None, Ok, refl, sym, ap, ◌∙◌, subst, arith, rules, append_assoc, length-append}
-use Rattle.std.specs.Prelude.{min, nat_le, ◌&&◌}
+use Rattle.std.proofs.Common.{◌≡◌, ℕ, zero, suc, ◌+◌, ◌*◌, ◌≤◌, Bool, true, false, List, [], ◌∷◌, ◌++◌, length, Option, Some, None, refl, sym, ap, ◌∙◌, subst, arith, rules, append_assoc, length-append}
+use Rattle.std.specs.Prelude.{min, nat_le}
 use Rattle.std.specs.FinMap as map
 use Rattle.std.proofs.lemmas.Bool.Decides.{nat_tests}
-use Rattle.std.proofs.lemmas.Bool.{cond-true}
 use Rattle.std.proofs.lemmas.List.{append-nil}
 use Rattle.std.specs.Prelude.{if◌then◌else◌}
 use Rattle.std.specs.Fmt.{decimal}
-use Rattle.file_net.proofs.Lists.{commands_append}
-use Rattle.chaos_file.specs.declared.limits.TheConstants.{MAX_CHUNK, MAX_TID, MAX_HANDLE, MAX_NAME}
+use Rattle.chaos_file.specs.declared.limits.TheConstants.{MAX_CHUNK, MAX_NAME}
 use Rattle.chaos_file.specs.Names.{is_name}
 use Rattle.chaos_file.specs.Command.{OpenRead, OpenWrite, Read, Write, Close, Good, Login, word_said}
-use Rattle.chaos_file.specs.Spelling.{spelling_of, is_good, is_legal}
-use Rattle.chaos_file.specs.Answer.{Opened, Wrote, Closed, LoggedIn, read_answer, reply_to}
+use Rattle.chaos_file.specs.Spelling.{spelling_of, is_good}
+use Rattle.chaos_file.specs.Answer.{Opened, Wrote, Closed, LoggedIn, read_answer}
 use Rattle.chaos_file.specs.Grammar.{parse_of}
 use Rattle.chaos_file.specs.Session.{HandleView, SessionView, handle_named, new_session}
 use Rattle.chaos_file.specs.Store.{Files}
@@ -22,18 +20,18 @@ use Rattle.chaos_file.specs.Replies.{files_after, session_after, replies_from}
 use Rattle.chaos_file.proofs.Spelling.{parsed_spelled}
 use Rattle.chaos_file.proofs.Replies.{replies_append}
 use Rattle.chaos_net.specs.Net.{Name, is_name as is_own}
-use Rattle.chaos_net.proofs.Next.{same_name}
 use Rattle.file_copy.specs.Copy.{upto, chunk, chunk_count, reply_of, logged_in, Tids, CanCopy, put_front, put_reply, put_commands, put_replies, get_commands, get_replies}
 use Rattle.file_copy.specs.Ends.{login_command, login_reply}
-use Rattle.file_copy.proofs.Named.{logs_in_named, can_copy}
+use Rattle.file_copy.proofs.Named.{logs_in_named, number_named}
 use Rattle.file_copy.proofs.Got.{got}
 use Rattle.file_copy.proofs.Pieces.{piece_length}
 use Rattle.file_copy.proofs.Steps.{good_of}
 use Rattle.file_copy.proofs.Whole.{puts, gets, put_broken}
-use Rattle.file_net.specs.History.{Transaction, Service, AsDefined, reply_by, session_by, files_by, after_one, after_all, AreRight, commands_by, replies_to}
-use Rattle.file_net.specs.Copies.{LeavesFiles}
-use Rattle.file_net.proofs.Parts.{First, first_of, parts_of, replies_of_parts, head_eq, tail_eq, silent, is_same, is_apart, after_append, right_front, right_back}
-use Rattle.file_net.proofs.Shown.{IsAnswer, as_defined, is_answer}
+use Rattle.file_net.specs.History.{Transaction, Service, after_one, after_all, AreRight, commands_by, replies_to}
+use Rattle.file_net.specs.Operations.{Moment, LeavesFiles}
+use Rattle.file_net.proofs.Parts.{first_of, parts_of, replies_of_parts, head_eq, tail_eq, silent, is_apart, after_append, right_front, right_back}
+use Rattle.file_net.proofs.Next.{good_bare, session_on, is_next, first_moment, moment_on}
+use Rattle.file_net.proofs.Shown.{IsAnswer, is_answer}
 use Rattle.file_net.proofs.Own.{NeverAsks, AreOwn, own_upto, goes_on, never_open, never_write, never_read, never_login}
 
 -- ---- lists
@@ -51,50 +49,6 @@ session_more : (m : Files) (s : SessionView) (xs : List (List ℕ)) (c : List �
     → session_after m s (xs ++ c ∷ []) ≡ (file_step (files_after m s xs) (session_after m s xs) c).session
 session_more m s [] c = refl
 session_more m s (x ∷ xs) c = session_more (file_step m s x).files (file_step m s x).session xs c
-
--- the session at the end of a history, by its parts
-pub session_on : (c : Name) (v : Service) (h front back : List Transaction) → h ≡ front ++ back
-    → (after_all v h).session c ≡ (after_all (after_all v front) back).session c
-session_on c v h front back is =
-    ap (λ l. (after_all v l).session c) is ∙ ap (λ (z : Service). z.session c) (after_append v front back)
-
--- ---- one command of a connection, where its session is known
-
--- the first command of a connection in a history, given in the session s, was answered
-pub record IsNext (c : Name) (v : Service) (h : List Transaction) (s : SessionView) (command : List ℕ)
-    (rest : List (List ℕ)) (f : First c h command rest) : Type 0 where
-  pub reply : f.transaction.reply ≡ (file_step (after_all v f.before).files s command).reply
-  pub files : (after_one (after_all v f.before) f.transaction).files
-      ≡ (file_step (after_all v f.before).files s command).files
-  pub session : (after_one (after_all v f.before) f.transaction).session c
-      ≡ (file_step (after_all v f.before).files s command).session
-  pub right : AreRight (after_one (after_all v f.before) f.transaction) f.later
-  pub told : f.transaction.reply ∷ replies_to c f.later ≡ replies_to c h
-
-pub is_next : (c : Name) (v : Service) (h : List Transaction) (s : SessionView) (command reply : List ℕ)
-    (rest answers : List (List ℕ)) (f : First c h command rest) → AreRight v h → v.session c ≡ s
-    → replies_to c h ≡ reply ∷ answers → IsAnswer command reply → IsNext c v h s command rest f
-is_next c v h s command reply rest answers f r is heard answer =
-    let t : Transaction = f.transaction in
-    let w : Service = after_all v f.before in
-    let same : t.by ≡ c = is_same t.by c f.by in
-    let here : w.session c ≡ s = silent c v f.before f.none ∙ is in
-    let at : w.session t.by ≡ s = ap w.session same ∙ here in
-    let right = right_back v f.before (t ∷ f.later) (subst (AreRight v) f.is r) in
-    let both : t.reply ∷ replies_to c f.later ≡ reply ∷ answers = sym f.replies ∙ heard in
-    let told : t.reply ≡ reply = head_eq both in
-    let way : t.way ≡ AsDefined =
-    as_defined w.files (w.session t.by) t.command t.way
-    (answer.0, sym right.0.reply ∙ told ∙ answer.1 ∙ ap (λ x. reply_to (parse_of x) (Ok answer.0)) (sym f.said)) in
-    record {
-      reply = right.0.reply ∙ (λ j. reply_by w.files (at j) (f.said j) (way j));
-      files = (λ j. files_by w.files (at j) (f.said j) (way j));
-      session =
-          cond-true (is_own c t.by) _ _ (ap (is_own c) same ∙ same_name c)
-          ∙ (λ j. session_by w.files (at j) (f.said j) (way j));
-      right = right.1;
-      told = sym f.replies;
-    }
 
 -- ---- a CLOSE is answered alike over any files, and leaves the same session
 
@@ -134,15 +88,9 @@ module _ (m n : Files) (s : SessionView) (tid handle : List ℕ) where
 
 pub record GotIn (c : Name) (v : Service) (h : List Transaction) (s : SessionView) (command path bytes : List ℕ)
     (more : List (List ℕ)) : Type 0 where
-  pub before : List Transaction
-  pub transaction : Transaction
-  pub later : List Transaction
-  pub is : h ≡ before ++ transaction ∷ later
-  pub none : commands_by c before ≡ []
-  pub by : transaction.by ≡ c
-  pub said : transaction.command ≡ command
-  pub file : map.get (after_all v before).files path ≡ Some bytes
-  -- its session is as before
+  pub at : Moment h c [] command
+  pub file : map.get (after_all v at.before).files path ≡ Some bytes
+  -- the session is as before, if the connection sent no more
   pub session : more ≡ [] → (after_all v h).session c ≡ s
 
 pub got_in : (c : Name) (v : Service) (h : List Transaction) (tid : Tids) (name handle path bytes : List ℕ)
@@ -207,13 +155,7 @@ got_in c v h tid name handle path bytes more heard r ready can said told =
     (λ j. first j ∷ replies_append m1 s1 reads (close_it ∷ []) j) ∙ (λ j. opened ∷ (sym read j ++ sym ended j ∷ [])) in
     let file : map.get w.files path ≡ Some bytes = got w.files tid name handle path bytes can whole in
     record {
-      before = f.before;
-      transaction = f.transaction;
-      later = f.later;
-      is = f.is;
-      none = f.none;
-      by = is_same f.transaction.by c f.by;
-      said = f.said;
+      at = first_moment c h open_it ((reads ++ close_it ∷ []) ++ more) f;
       file = file;
       session = λ none.
           session_on c v h f.before (f.transaction ∷ f.later) f.is ∙ session_on c w1 f.later p.front p.back p.is
@@ -233,15 +175,10 @@ got_in c v h tid name handle path bytes more heard r ready can said told =
 
 pub record PutIn (c : Name) (v : Service) (h : List Transaction) (s : SessionView) (front : List (List ℕ))
     (command path bytes : List ℕ) (more : List (List ℕ)) : Type 0 where
-  pub before : List Transaction
-  pub transaction : Transaction
-  pub later : List Transaction
-  pub is : h ≡ before ++ transaction ∷ later
-  pub own : commands_by c before ≡ front
-  pub by : transaction.by ≡ c
-  pub said : transaction.command ≡ command
-  pub file : (after_one (after_all v before) transaction).files ≡ map.insert (after_all v before).files path bytes
-  pub alone : LeavesFiles c v before
+  pub at : Moment h c front command
+  pub file : (after_one (after_all v at.before) at.transaction).files ≡ map.insert (after_all v at.before).files path bytes
+  pub alone : LeavesFiles c v at.before
+  -- the session is as before, if the connection sent no more
   pub session : more ≡ [] → (after_all v h).session c ≡ s
 
 -- transactions of others leave it so
@@ -316,14 +253,8 @@ put_in c v h tid name handle path bytes more heard r ready can said told =
     ∙ (puts m tid name handle path bytes can).files in
     let joined : after_all v (p.front ++ u.before) ≡ w = after_append v p.front u.before in
     record {
-      before = p.front ++ u.before;
-      transaction = u.transaction;
-      later = u.later;
-      is = p.is ∙ ap (λ z. p.front ++ z) u.is ∙ sym (append_assoc p.front u.before (u.transaction ∷ u.later));
-      own =
-          commands_append c p.front u.before ∙ (λ j. p.own j ++ u.none j) ∙ append-nil front;
-      by = is_same u.transaction.by c u.by;
-      said = u.said;
+      at = moment_on c h p.front p.back front [] front close_it p.is p.own (append-nil front)
+          (first_moment c p.back close_it more u);
       file =
           ap (λ z. (after_one z u.transaction).files) joined ∙ l.files ∙ put
           ∙ ap (λ z. map.insert z.files path bytes) (sym joined);
@@ -349,10 +280,8 @@ pub logged : (c : Name) (v : Service) (h : List Transaction) (name : List ℕ) �
     → v.session c ≡ new_session → is_name 1 MAX_NAME name ≡ true → commands_by c h ≡ login_command name ∷ []
     → replies_to c h ≡ login_reply name ∷ [] → (after_all v h).session c ≡ logged_in name
 logged c v h name r new named said told =
-    let tid : is_name 1 MAX_TID (decimal 0) ≡ true =
-    (can_copy 0 (65 ∷ []) [] (omega arith) refl (omega arith)).names 0 (omega arith) in
     let good : is_good (decimal 0) [] (Login name) ≡ true =
-    ap (λ b. b && (is_name 0 MAX_HANDLE [] && is_legal true (Login name))) tid ∙ named in
+    good_bare (decimal 0) (Login name) (number_named 0 (omega arith)) named in
     let own : AreOwn (commands_by c h) (replies_to c h) =
     subst (λ (z : List (List ℕ) × List (List ℕ)). AreOwn z.0 z.1) (λ j. (sym said j, sym told j))
     (never_login (decimal 0) [] name good, is_answer (decimal 0) [] (Login name) (LoggedIn name) good, tt) in

@@ -18,7 +18,7 @@ use Rattle.chaos_net.specs.Net.{Name, is_name}
 use Rattle.chaos_net.proofs.Next.{same_name}
 use Rattle.file_copy.specs.Copy.{upto}
 use Rattle.file_net.specs.History.{Transaction, Service, AsDefined, reply_by, session_by, files_by, after_one, after_all, AreRight, commands_by, replies_to}
-use Rattle.file_net.specs.Copies.{LeavesFiles}
+use Rattle.file_net.specs.Operations.{LeavesFiles}
 use Rattle.file_net.proofs.Parts.{is_same, is_apart, other_session}
 use Rattle.file_net.proofs.Shown.{IsAnswer, as_defined}
 

@@ -3,4 +3,4 @@ pub mod FileNet
 pub mod Serving
 pub mod Short
 pub mod Users
-pub mod Copies
+pub mod Operations

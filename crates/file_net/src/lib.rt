@@ -1,5 +1,5 @@
 //! FILE over a network. One host serves FILE to many connections from one store. The laws say what
-//! the clients read, and what whole files the clients copy.
+//! the clients read, and what became of the files that the clients put, get, delete and rename.
 //!
 //! The laws have these premises, and promise nothing of progress: a server that never serves meets
 //! the laws.
@@ -10,12 +10,14 @@
 //!   no client ever stored.
 //! - Only B's server reads and writes at B. Otherwise another user of B could take a command, or
 //!   could send a false reply.
-//! - For whole files: the user sent LOGIN and then exactly the commands of copies. Otherwise the
-//!   user could close the file in the middle of a copy.
+//! - For operations: the user sent LOGIN and then exactly the commands of operations. Otherwise the
+//!   user could close the file in the middle of a put.
 #![tactic(auto)]
 
-mod copies;
 mod law;
+mod operations;
 
-pub use copies::{law_copies_among, law_copy_among, law_login_among};
 pub use law::{law_file_net, law_grows, law_served, law_serving, law_short_file, law_users};
+pub use operations::{
+    law_answered_once, law_login_among, law_operation_among, law_operations_among,
+};

@@ -1,10 +1,14 @@
 -- How a copy ends.
-use Rattle.std.proofs.Common.{sym, subst}
-use Rattle.std.specs.Prelude.{◌≡◌, false, Ok, Err, Result, IfOk, IfErr, OnOk, MatchResult}
+use Rattle.std.proofs.Common.{inl, inr, sym, subst, ap, ◌∙◌}
+use Rattle.std.specs.Prelude.{◌≡◌, ℕ, Bool, true, false, List, Ok, Err, Result, IfOk, IfErr, OnErr, OnOk, MatchResult}
 use Rattle.chaos_node.specs.declared.fault.NodeFault.{NodeFault}
 use Rattle.file_copy.specs.declared.end.CopyEnd.{CopyEnd}
 use Rattle.file_copy.specs.declared.end.CopyEnd.TheVariants as e
 use Rattle.file_copy.specs.Ends.{IfDone}
+use Rattle.file_copy.specs.Talk.{History}
+use Rattle.file_copy.specs.Operation.{Operation}
+use Rattle.file_transfer.specs.Sessions.{Does, Enters, EntersAnd, Stays}
+use Rattle.file_transfer.specs.Settling.{is_done, is_replied}
 use Rattle.file_transfer.specs.declared.outcome.Outcome.{Outcome}
 use Rattle.file_transfer.specs.declared.outcome.Outcome.TheVariants as o
 use Rattle.file_transfer.specs.declared.outcome.Contents.{Contents}
@@ -23,7 +27,8 @@ done_then (Err fault) P Q f p = tt
 not_copied : (outcome : Outcome) (P : Contents → Type 0) (Q : Type 0) → is_well outcome ≡ false → Q
     → MatchCopied outcome P Q
 not_copied (o.Copied contents) P Q h q = absurd (cc)
-not_copied _ P Q h q = q
+not_copied o.Changed P Q h q = absurd (cc)
+not_copied _ P Q h q = (h, q)
 
 -- what came of a try that copied the file, or else missed it
 pub of_tried : (tried : Result Contents Outcome) (outcome : Outcome) (P R : Contents → Type 0)
@@ -41,3 +46,44 @@ pub settled_then : {D F G : Type 0} (end : Result CopyEnd NodeFault) (r : Result
 settled_then end (Ok x) a b P done same h =
     subst P (sym same) (let k : IfDone (Ok e.Done) (P a) = subst (λ z. IfDone z (P a)) done h in k)
 settled_then end (Err x) a b P done same h = tt
+
+-- what was done over a talk that was entered
+pub settled_behind : {T F G : Type 0} (talked : T → History T) (connects : T → T → Type 0) (is_in : Bool) (name : List ℕ)
+    (old entered : T) (operation : Operation) (end : Result CopyEnd NodeFault) (r : Result G F) (a b : T)
+    → OnOk r (end ≡ Ok e.Done) → OnOk r (b ≡ a) → Enters talked connects is_in name old entered
+    → IfDone end (Does talked operation entered a)
+    → OnOk r (EntersAnd talked connects is_in name old operation b)
+settled_behind talked connects is_in name old entered operation end r a b done same was does =
+    settled_then end r a b (EntersAnd talked connects is_in name old operation) done same
+    (done_then end (Does talked operation entered a) (EntersAnd talked connects is_in name old operation a)
+    (λ d. (entered, was, d)) does)
+
+-- a session stays open where its copy was done
+pub settled_in : {F G : Type 0} (end : Result CopyEnd NodeFault) (r : Result G F) (is_in : Bool) → is_in ≡ is_done end
+    → OnOk r (end ≡ Ok e.Done) → OnOk r (is_in ≡ true)
+settled_in end (Ok x) is_in stays done = stays ∙ ap is_done done
+settled_in end (Err x) is_in stays done = tt
+
+-- and where its change was made
+pub changed_in : {F G : Type 0} (end : Result CopyEnd NodeFault) (r : Result G F) (is_in : Bool) → is_in ≡ is_replied end
+    → OnOk r (end ≡ Ok e.Done) → OnOk r (is_in ≡ true)
+changed_in end (Ok x) is_in stays done = stays ∙ ap is_replied done
+changed_in end (Err x) is_in stays done = tt
+
+-- who is logged in after a try did one operation
+pub stays_done : {T A F : Type 0} (talked : T → History T) (connects : T → T → Type 0) (was_in : Bool) (user : List ℕ) (old : T)
+    (is_in : Bool) (new : T) (operation : Operation) (r : Result A F)
+    → OnOk r (EntersAnd talked connects was_in user old operation new) → OnErr r (is_in ≡ false)
+    → Stays talked connects was_in user old is_in new
+stays_done talked connects was_in user old is_in new operation (Ok x) did outside is = inr (operation, did)
+stays_done talked connects was_in user old is_in new operation (Err e) did outside is = absurd (cc)
+
+-- who did nothing stays as before
+pub stays_same : {T : Type 0} (talked : T → History T) (connects : T → T → Type 0) (was_in : Bool) (user : List ℕ) (old : T)
+    (is_in : Bool) (new : T) → is_in ≡ was_in → new ≡ old → Stays talked connects was_in user old is_in new
+stays_same talked connects was_in user old is_in new same still is = inl (sym same ∙ is, still)
+
+-- what holds of what went well, and of its having gone well
+pub both_ok : {A F : Type 0} (r : Result A F) (P : A → Type 0) (Q : Type 0) → IfOk r P → OnOk r Q → IfOk r (λ x. P x × Q)
+both_ok (Ok x) P Q p q = (p, q)
+both_ok (Err e) P Q p q = tt

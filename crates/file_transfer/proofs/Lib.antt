@@ -1,2 +1,4 @@
 mod Running
 mod Ending
+pub mod Sessions
+mod Tried

@@ -71,7 +71,7 @@ and_assoc : (a b c : Bool) → (a && (b && c)) ≡ ((a && b) && c)
 and_assoc true b c = refl
 and_assoc false b c = refl
 
-all_more : {F : Type 0} (files : List (Tried F)) (file : Tried F)
+pub all_more : {F : Type 0} (files : List (Tried F)) (file : Tried F)
     → all_well (files ++ file ∷ []) ≡ (all_well files && is_well file.outcome)
 all_more [] file = and_true (is_well file.outcome)
 all_more (first ∷ files) file =

@@ -3,4 +3,6 @@ pub mod Outcome
 pub mod Progress
 pub mod Runs
 pub mod Copied
+pub mod Sessions
+pub mod Done
 pub mod Settling

@@ -1,5 +1,5 @@
 -- What came of one file.
-use Rattle.std.specs.Prelude.{Bool, true, false}
+use Rattle.std.specs.Prelude.{◌≡◌, Bool, true, false}
 use Rattle.std.specs.IoError.{error_kind}
 use Rattle.std.specs.declared.io.ErrorKind.{ErrorKind}
 use Rattle.std.specs.declared.io.ErrorKind.TheVariants as k
@@ -62,12 +62,12 @@ goes_on (Unanswered why) = false
 goes_on (Unknown why) = false
 goes_on NotTried = false
 
--- P of a file that was copied, and Q of another
+-- P of a file that was copied, and Q of a file that was neither copied nor changed
 abbrev pub MatchCopied : Outcome → (Contents → Type 0) → Type 0 → Type 0
 MatchCopied (Copied contents) P Q = P contents
-MatchCopied _ P Q = Q
+MatchCopied outcome P Q = (is_well outcome ≡ false) × Q
 
--- P where a file was changed
-abbrev pub IfChanged : Outcome → Type 0 → Type 0
-IfChanged Changed P = P
-IfChanged _ P = Unit {0}
+-- P where a file was changed, and otherwise the file was neither changed nor copied
+abbrev pub MatchChanged : Outcome → Type 0 → Type 0
+MatchChanged Changed P = P
+MatchChanged outcome P = is_well outcome ≡ false

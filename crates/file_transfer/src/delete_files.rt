@@ -1,7 +1,7 @@
 //! Files that are deleted.
-ghost use Rattle.std.specs.Prelude.{◌≡◌, ◌≤◌};
-ghost use Rattle.file_transfer.specs.Outcome.{IfChanged};
-ghost use Rattle.file_transfer.specs.Copied.{HasDeleted};
+ghost use Rattle.std.specs.Prelude.{◌≡◌, ◌≤◌, true};
+ghost use Rattle.file_transfer.specs.Outcome.{MatchChanged};
+ghost use Rattle.file_transfer.specs.Sessions.{EntersAnd, delete_of};
 
 use crate::file_task::FileTask;
 use crate::outcome::Outcome;
@@ -20,10 +20,12 @@ pub struct DeleteFiles<'a, T: Talk, V: ProgressSink> {
 impl<'a, T: Talk, V: ProgressSink> FileTask for DeleteFiles<'a, T, V> {
     type File = &'a str;
 
-    /// A file is reported as changed only where the last that was sent and received is its DELETE,
-    /// and that it was done.
-    ghost tries = { λ _ path outcome new. IfChanged outcome
-        (HasDeleted path.now (T.talked new.session.talk)) };
+    /// A file is reported as changed only where the user entered, and then sent exactly its DELETE
+    /// and received exactly that it was done. The name by which the user logs in stays.
+    ghost tries = { λ old path outcome new. MatchChanged outcome
+        (EntersAnd T.talked T.connects old.session.is_in old.session.login.now old.session.talk
+        (delete_of path.now) new.session.talk × (new.session.is_in ≡ true))
+        × (new.session.login ≡ old.session.login) };
 
     fn try_file(&mut self, path: &&'a str) -> Outcome {
         if path.len() > MAX_PATH {

@@ -1,10 +1,11 @@
 //! Files that are got.
-ghost use Rattle.std.specs.Prelude.{◌≡◌, ◌≤◌, ◌∷◌, false, List, ℕ, length, IfOk, IfErr, OnOk, OnErr, MatchResult};
+ghost use Rattle.std.specs.Prelude.{◌≡◌, ◌≤◌, ◌∷◌, false, true, List, ℕ, length, IfOk, IfErr, OnOk, OnErr, MatchResult};
 ghost use Rattle.chaos_file.specs.declared.limits.TheConstants.{MAX_PATH};
 ghost use Rattle.file_copy.specs.declared.text.Charset.{Charset};
 ghost use Rattle.file_names.specs.Destination.{local_of};
 ghost use Rattle.file_transfer.specs.Outcome.{is_well, MatchCopied};
-ghost use Rattle.file_transfer.specs.Copied.{GetsWhole, HasGot, bytes_in, contents_of, written_after};
+ghost use Rattle.file_transfer.specs.Copied.{GetsWhole, bytes_in, contents_of, written_after};
+ghost use Rattle.file_transfer.specs.Sessions.{EntersAnd, Stays, get_of};
 
 use crate::file_task::FileTask;
 use crate::local_files::LocalFiles;
@@ -39,9 +40,18 @@ impl<T: Talk, L: LocalFiles, V: ProgressSink> GetFiles<'_, T, L, V> {
     /// The bytes of a file, as a text where that is asked for.
     fn bytes_of(&mut self, path: &str) -> Result<Vec<u8>, Outcome>
         requires { length path.now ≤ MAX_PATH }
+        // The user entered, and then sent exactly all that gets this file. The result is the file's
+        // bytes, as a text if that is asked for.
         ensures got { IfOk result
-            (λ v. (bytes : List ℕ) × HasGot path.now bytes (T.talked self.new.session.talk)
+            (λ v. (bytes : List ℕ)
+            × EntersAnd T.talked T.connects self.old.session.is_in self.old.session.login.now
+            self.old.session.talk (get_of path.now bytes) self.new.session.talk
             × (v.items ≡ bytes_in Charset.Ascii self.old.is_text bytes)) }
+        ensures inside { OnOk result (self.new.session.is_in ≡ true) }
+        ensures stays { Stays T.talked T.connects self.old.session.is_in
+            self.old.session.login.now self.old.session.talk self.new.session.is_in
+            self.new.session.talk }
+        ensures same_login { self.new.session.login ≡ self.old.session.login }
         ensures missed { IfErr result (λ outcome. is_well outcome ≡ false) }
         ensures same { (self.new.locals ≡ self.old.locals)
             × (self.new.is_digested ≡ self.old.is_digested) }
@@ -77,10 +87,20 @@ impl<T: Talk, L: LocalFiles, V: ProgressSink> GetFiles<'_, T, L, V> {
     /// Gets a file into a local one, of which it is made sure before anything is said that it can
     /// be written.
     fn get_into(&mut self, path: &str, local: &str) -> Result<Contents, Outcome>
+        // The user entered and got the file, and exactly the file's bytes were written to the local
+        // file, as a text if that is asked for.
         ensures got { IfOk result
-            (λ contents. GetsWhole path.now local.now self.old.is_text self.old.is_digested contents
-            (T.talked self.new.session.talk) (L.written self.old.locals)
-            (L.written self.new.locals)) }
+            (λ contents. GetsWhole
+            (λ bytes. EntersAnd T.talked T.connects self.old.session.is_in
+            self.old.session.login.now self.old.session.talk (get_of path.now bytes)
+            self.new.session.talk)
+            local.now self.old.is_text self.old.is_digested contents
+            (L.written self.old.locals) (L.written self.new.locals)) }
+        ensures inside { OnOk result (self.new.session.is_in ≡ true) }
+        ensures stays { Stays T.talked T.connects self.old.session.is_in
+            self.old.session.login.now self.old.session.talk self.new.session.is_in
+            self.new.session.talk }
+        ensures same_login { self.new.session.login ≡ self.old.session.login }
         ensures failed { OnErr result (L.written self.new.locals ≡ L.written self.old.locals) }
         ensures missed { IfErr result (λ outcome. is_well outcome ≡ false) }
         ensures same_destination { (self.new.destination ≡ self.old.destination)
@@ -103,15 +123,22 @@ impl<T: Talk, L: LocalFiles, V: ProgressSink> GetFiles<'_, T, L, V> {
 impl<'a, T: Talk, L: LocalFiles, V: ProgressSink> FileTask for GetFiles<'a, T, L, V> {
     type File = &'a str;
 
-    /// A file is reported as copied only where the last that was sent and received is all that gets
-    /// this path's bytes, and exactly these, as a text where that is asked for, were then written
-    /// to the local file that the path goes to. The count and the digest that are reported are
-    /// theirs. Where it isn't reported as copied, no local file changed.
+    /// A file is reported as copied only where the user entered, then sent and received exactly all
+    /// that gets this path's bytes, and wrote exactly these, as a text where that is asked for, to
+    /// the local file that the path goes to. The count and the digest that are reported are theirs.
+    /// Where it isn't reported as copied, no local file changed. A user who is logged in afterwards
+    /// did nothing, or got a file.
     ghost tries = { λ old path outcome new. MatchCopied outcome
-        (λ contents. GetsWhole path.now (local_of old.destination path.now) old.is_text old.is_digested contents
-        (T.talked new.session.talk) (L.written old.locals) (L.written new.locals))
+        (λ contents. GetsWhole
+        (λ bytes. EntersAnd T.talked T.connects old.session.is_in old.session.login.now
+        old.session.talk (get_of path.now bytes) new.session.talk)
+        (local_of old.destination path.now) old.is_text old.is_digested contents
+        (L.written old.locals) (L.written new.locals)
+        × (new.session.is_in ≡ true))
         (L.written new.locals ≡ L.written old.locals)
-        × ((new.destination ≡ old.destination) × (new.is_text ≡ old.is_text)
+        × Stays T.talked T.connects old.session.is_in old.session.login.now old.session.talk
+        new.session.is_in new.session.talk
+        × ((new.session.login ≡ old.session.login) × (new.destination ≡ old.destination) × (new.is_text ≡ old.is_text)
         × (new.is_digested ≡ old.is_digested)) };
 
     fn try_file(&mut self, path: &&'a str) -> Outcome {

@@ -11,6 +11,7 @@ mod disk;
 mod file_task;
 mod get_files;
 mod kind;
+mod law;
 mod local_files;
 mod outcome;
 mod progress;
@@ -28,6 +29,7 @@ pub use delete_files::DeleteFiles;
 pub use disk::Disk;
 pub use file_task::{FileTask, OutcomeSink, run_copies};
 pub use get_files::GetFiles;
+pub use law::{law_deletes, law_runs};
 pub use local_files::LocalFiles;
 pub use outcome::{Contents, Outcome};
 pub use progress::{

@@ -1,9 +1,10 @@
 //! Files that are put.
-ghost use Rattle.std.specs.Prelude.{◌≡◌, ◌≤◌, false, Some, List, ℕ, length, IfOk, IfErr, option_map};
+ghost use Rattle.std.specs.Prelude.{◌≡◌, ◌≤◌, false, true, Some, List, ℕ, length, IfOk, IfErr, OnOk, option_map};
 ghost use Rattle.chaos_file.specs.declared.limits.TheConstants.{MAX_FILE, MAX_PATH};
 ghost use Rattle.file_copy.specs.declared.text.Charset.{Charset};
 ghost use Rattle.file_transfer.specs.Outcome.{is_well, MatchCopied};
-ghost use Rattle.file_transfer.specs.Copied.{HasPut, PutsWhole, bytes_in, contents_of};
+ghost use Rattle.file_transfer.specs.Copied.{PutsWhole, bytes_in, contents_of};
+ghost use Rattle.file_transfer.specs.Sessions.{EntersAnd, Stays, put_of};
 
 use crate::file_task::FileTask;
 use crate::local_files::LocalFiles;
@@ -28,22 +29,40 @@ pub struct PutFiles<'a, T: Talk, L: LocalFiles, V: ProgressSink> {
 }
 
 impl<T: Talk, L: LocalFiles, V: ProgressSink> PutFiles<'_, T, L, V> {
+    /// Reports a text whose lines end by returns, as no Lisp machine ends them.
+    fn report_returns(&mut self, local: &str, bytes: &[u8])
+        ensures { (self.new.session.talk ≡ self.old.session.talk)
+            × (self.new.session.login ≡ self.old.session.login)
+            × (self.new.session.is_in ≡ self.old.session.is_in)
+            × (self.new.is_text ≡ self.old.is_text)
+            × (self.new.is_digested ≡ self.old.is_digested) }
+    {
+        if self.is_text && has_returns(bytes) {
+            let session = &mut self.session;
+            session.progress.report_returns(local);
+        }
+    }
+
     /// Puts the bytes that were read of a local file.
     fn put_bytes(&mut self, local: &str, path: &[u8], bytes: Vec<u8>) -> Result<Contents, Outcome>
         requires path { length path.now ≤ MAX_PATH }
         requires fits { length bytes.items ≤ MAX_FILE }
         ensures put { IfOk result
-            (λ contents. HasPut path.now (bytes_in Charset.LispMachine self.old.is_text bytes.items)
-            (T.talked self.new.session.talk)
+            (λ contents. EntersAnd T.talked T.connects self.old.session.is_in
+            self.old.session.login.now self.old.session.talk
+            (put_of path.now (bytes_in Charset.LispMachine self.old.is_text bytes.items))
+            self.new.session.talk
             × (contents ≡ contents_of self.old.is_digested bytes.items)) }
+        ensures inside { OnOk result (self.new.session.is_in ≡ true) }
+        ensures stays { Stays T.talked T.connects self.old.session.is_in
+            self.old.session.login.now self.old.session.talk self.new.session.is_in
+            self.new.session.talk }
         ensures missed { IfErr result (λ outcome. is_well outcome ≡ false) }
-        ensures same { (self.new.is_text ≡ self.old.is_text)
+        ensures same { (self.new.session.login ≡ self.old.session.login)
+            × (self.new.is_text ≡ self.old.is_text)
             × (self.new.is_digested ≡ self.old.is_digested) }
     {
-        if self.is_text && has_returns(bytes.as_slice()) {
-            let session = &mut self.session;
-            session.progress.report_returns(local);
-        }
+        self.report_returns(local, bytes.as_slice());
         let contents = Contents::of(bytes.as_slice(), self.is_digested);
         match in_set(Charset::LispMachine, self.is_text, bytes) {
             Ok(sent) => self.session.put(local, path, sent.as_slice())?,
@@ -56,14 +75,20 @@ impl<T: Talk, L: LocalFiles, V: ProgressSink> PutFiles<'_, T, L, V> {
 impl<'a, T: Talk, L: LocalFiles, V: ProgressSink> FileTask for PutFiles<'a, T, L, V> {
     type File = PutFile<'a>;
 
-    /// A file is reported as copied only where the last that was sent and received is all that puts
-    /// what the local file has, as a text where that is asked for, to the path that it goes to.
+    /// A file is reported as copied only where the user entered, and then sent and received exactly
+    /// all that puts what the local file has, as a text where that is asked for, to the path that it
+    /// goes to. A user who is logged in afterwards did nothing, or put a file.
     ghost tries = { λ old file outcome new. MatchCopied outcome
         (λ contents. (path : List ℕ) × (option_map (λ p. p.items) file.path ≡ Some path)
-        × PutsWhole path (L.held old.locals file.local.now) old.is_text old.is_digested contents
-        (T.talked new.session.talk))
+        × PutsWhole
+        (λ bytes. EntersAnd T.talked T.connects old.session.is_in old.session.login.now
+        old.session.talk (put_of path bytes) new.session.talk)
+        (L.held old.locals file.local.now) old.is_text old.is_digested contents
+        × (new.session.is_in ≡ true))
         (Unit {0})
-        × ((new.is_text ≡ old.is_text) × (new.is_digested ≡ old.is_digested)) };
+        × Stays T.talked T.connects old.session.is_in old.session.login.now old.session.talk
+        new.session.is_in new.session.talk
+        × ((new.session.login ≡ old.session.login) × (new.is_text ≡ old.is_text) × (new.is_digested ≡ old.is_digested)) };
 
     /// The file is read whole before anything is sent.
     fn try_file(&mut self, file: &PutFile<'a>) -> Outcome {

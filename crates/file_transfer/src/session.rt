@@ -2,7 +2,7 @@
 ghost use Rattle.std.specs.Prelude.{◌≡◌, ◌≤◌, [], false, true, length, IfErr, OnErr, OnOk, Ok};
 ghost use Rattle.chaos_file.specs.declared.limits.TheConstants.{MAX_FILE, MAX_NAME, MAX_PATH};
 ghost use Rattle.file_copy.specs.Ends.{IfDone};
-ghost use Rattle.file_transfer.specs.Copied.{Enters, HasDeleted, HasGot, HasPut, HasRenamed};
+ghost use Rattle.file_transfer.specs.Sessions.{Does, Enters, EntersAnd, delete_of, get_of, put_of, rename_of};
 ghost use Rattle.file_transfer.specs.Settling.{ComesTo, change_end, is_done, is_replied};
 ghost use Rattle.file_transfer.specs.Outcome.{is_well};
 
@@ -25,9 +25,11 @@ pub struct Session<'a, T: Talk, V: ProgressSink> {
     pub talk: T,
     /// Whoever is shown how far a file has come.
     pub progress: V,
-    login: &'a str,
-    /// Whether the user has logged in, and every reply was received.
-    is_in: bool,
+    /// The name by which the user logs in.
+    pub login: &'a str,
+    /// Whether the user has logged in, and every reply was received. Who sets it to true where that
+    /// isn't so gets copies that fail.
+    pub is_in: bool,
     ghost login_fits: { length login.now ≤ MAX_NAME },
 }
 
@@ -36,7 +38,9 @@ impl<'a, T: Talk, V: ProgressSink> Session<'a, T, V> {
     pub fn new(talk: T, progress: V, login: &'a str) -> Self
         requires { length login.now ≤ MAX_NAME }
         // The session has the talk and the progress sink that were handed in.
-        ensures { (result.talk ≡ talk) × (result.progress ≡ progress) }
+        ensures has { (result.talk ≡ talk) × (result.progress ≡ progress) }
+        // Nobody is logged in yet, and who will be has this name.
+        ensures outside { (result.is_in ≡ false) × (result.login.now ≡ login.now) }
     {
         Session {
             talk,
@@ -49,10 +53,10 @@ impl<'a, T: Talk, V: ProgressSink> Session<'a, T, V> {
     /// Asks for a connection and logs in, where that isn't done.
     fn begin(&mut self) -> Result<CopyEnd, NodeFault>
         ensures entered { IfDone result
-            (Enters self.old.is_in self.old.login.now (T.talked self.new.talk) self.old.talk
+            (Enters T.talked T.connects self.old.is_in self.old.login.now self.old.talk
             self.new.talk) }
         ensures within { self.old.is_in ≡ true → result ≡ Ok CopyEnd.Done }
-        ensures same { self.new.is_in ≡ self.old.is_in }
+        ensures same { (self.new.is_in ≡ self.old.is_in) × (self.new.login ≡ self.old.login) }
     {
         if self.is_in {
             return Ok(CopyEnd::Done);
@@ -63,12 +67,13 @@ impl<'a, T: Talk, V: ProgressSink> Session<'a, T, V> {
 
     /// Makes sure that there is a connection and that the user has logged in.
     fn enter(&mut self) -> Result<(), Outcome>
-        // The last that was sent is the LOGIN of this user, unless the user was logged in already.
+        // A user who wasn't logged in asked for a connection and logged in.
         ensures entered { OnOk result
-            (Enters self.old.is_in self.old.login.now (T.talked self.new.talk) self.old.talk
+            (Enters T.talked T.connects self.old.is_in self.old.login.now self.old.talk
             self.new.talk) }
         ensures missed { IfErr result (λ outcome. is_well outcome ≡ false) }
         ensures outside { OnErr result (self.new.is_in ≡ false) }
+        ensures same { self.new.login ≡ self.old.login }
     {
         let end = self.begin();
         settle(&mut self.talk, end)
@@ -78,10 +83,12 @@ impl<'a, T: Talk, V: ProgressSink> Session<'a, T, V> {
     fn get_on(&mut self, path: &[u8], bytes: &mut Vec<u8>) -> Result<CopyEnd, NodeFault>
         requires path { length path.now ≤ MAX_PATH }
         requires empty { bytes.old.items ≡ [] }
+        // If the get is Done, exactly all that gets this file was sent and received.
         ensures got { IfDone result
-            (HasGot path.now bytes.new.items (T.talked self.new.talk)) }
+            (Does T.talked (get_of path.now bytes.new.items) self.old.talk self.new.talk) }
         // The next file goes over this connection only where every reply was received.
         ensures stays { self.new.is_in ≡ is_done result }
+        ensures same { self.new.login ≡ self.old.login }
     {
         let end = get_file(&mut self.talk, FIRST, path, bytes, &mut self.progress);
         self.progress.end();
@@ -93,11 +100,15 @@ impl<'a, T: Talk, V: ProgressSink> Session<'a, T, V> {
     pub(crate) fn get(&mut self, path: &str, bytes: &mut Vec<u8>) -> Result<(), Outcome>
         requires path { length path.now ≤ MAX_PATH }
         requires empty { bytes.old.items ≡ [] }
+        // Where it is got, the user entered, and then sent exactly all that gets this file.
         ensures got { OnOk result
-            (HasGot path.now bytes.new.items (T.talked self.new.talk)) }
+            (EntersAnd T.talked T.connects self.old.is_in self.old.login.now self.old.talk
+            (get_of path.now bytes.new.items) self.new.talk) }
+        ensures inside { OnOk result (self.new.is_in ≡ true) }
         ensures missed { IfErr result (λ outcome. is_well outcome ≡ false) }
         // After a file that wasn't got a new connection is asked for.
         ensures outside { OnErr result (self.new.is_in ≡ false) }
+        ensures same { self.new.login ≡ self.old.login }
     {
         self.enter()?;
         self.progress.begin(path, self.talk.moment());
@@ -109,8 +120,11 @@ impl<'a, T: Talk, V: ProgressSink> Session<'a, T, V> {
     fn put_on(&mut self, path: &[u8], bytes: &[u8]) -> Result<CopyEnd, NodeFault>
         requires path { length path.now ≤ MAX_PATH }
         requires fits { length bytes.now ≤ MAX_FILE }
-        ensures put { IfDone result (HasPut path.now bytes.now (T.talked self.new.talk)) }
+        // If the put is Done, exactly all that puts this file was sent and received.
+        ensures put { IfDone result
+            (Does T.talked (put_of path.now bytes.now) self.old.talk self.new.talk) }
         ensures stays { self.new.is_in ≡ is_done result }
+        ensures same { self.new.login ≡ self.old.login }
     {
         let end = put_file(&mut self.talk, FIRST, path, bytes, &mut self.progress);
         self.progress.end();
@@ -122,9 +136,14 @@ impl<'a, T: Talk, V: ProgressSink> Session<'a, T, V> {
     pub(crate) fn put(&mut self, local: &str, path: &[u8], bytes: &[u8]) -> Result<(), Outcome>
         requires path { length path.now ≤ MAX_PATH }
         requires fits { length bytes.now ≤ MAX_FILE }
-        ensures put { OnOk result (HasPut path.now bytes.now (T.talked self.new.talk)) }
+        // Where it is put, the user entered, and then sent exactly all that puts this file.
+        ensures put { OnOk result
+            (EntersAnd T.talked T.connects self.old.is_in self.old.login.now self.old.talk
+            (put_of path.now bytes.now) self.new.talk) }
+        ensures inside { OnOk result (self.new.is_in ≡ true) }
         ensures missed { IfErr result (λ outcome. is_well outcome ≡ false) }
         ensures outside { OnErr result (self.new.is_in ≡ false) }
+        ensures same { self.new.login ≡ self.old.login }
     {
         self.enter()?;
         self.progress.begin(local, self.talk.moment());
@@ -140,6 +159,7 @@ impl<'a, T: Talk, V: ProgressSink> Session<'a, T, V> {
         ensures still { OnOk result (self.new.talk ≡ self.old.talk) }
         // A refusal is the reply to the change, so that no other reply is on its way.
         ensures stays { self.new.is_in ≡ is_replied end }
+        ensures same { self.new.login ≡ self.old.login }
     {
         self.is_in = is_replied(&end);
         settle(&mut self.talk, change_end(end))
@@ -152,11 +172,17 @@ impl<'a, T: Talk, V: ProgressSink> Session<'a, T, V> {
     /// reply.
     pub fn delete(&mut self, path: &[u8]) -> Result<(), Outcome>
         requires { length path.now ≤ MAX_PATH }
-        // Where it is done, the last that was sent is the DELETE of this path, and the last that
-        // was received says that it was done.
-        ensures done { OnOk result (HasDeleted path.now (T.talked self.new.talk)) }
+        // Where it is done, the user entered, and then sent exactly the DELETE of this path, and
+        // received exactly that it was done.
+        ensures done { OnOk result
+            (EntersAnd T.talked T.connects self.old.is_in self.old.login.now self.old.talk
+            (delete_of path.now) self.new.talk) }
+        // The user is then logged in, and every reply was received.
+        ensures inside { OnOk result (self.new.is_in ≡ true) }
         // Otherwise what came of it is no success.
         ensures missed { IfErr result (λ outcome. is_well outcome ≡ false) }
+        // The name by which the user logs in stays.
+        ensures same { self.new.login ≡ self.old.login }
     {
         self.enter()?;
         let end = delete_file(&mut self.talk, FIRST, path, &mut self.progress);
@@ -171,11 +197,17 @@ impl<'a, T: Talk, V: ProgressSink> Session<'a, T, V> {
     pub fn rename(&mut self, old: &[u8], new: &[u8]) -> Result<(), Outcome>
         requires old { length old.now ≤ MAX_PATH }
         requires new { length new.now ≤ MAX_PATH }
-        // Where it is done, the last that was sent is the RENAME of these paths, and the last that
-        // was received says that it was done.
-        ensures done { OnOk result (HasRenamed old.now new.now (T.talked self.new.talk)) }
+        // Where it is done, the user entered, and then sent exactly the RENAME of these paths, and
+        // received exactly that it was done.
+        ensures done { OnOk result
+            (EntersAnd T.talked T.connects self.old.is_in self.old.login.now self.old.talk
+            (rename_of old.now new.now) self.new.talk) }
+        // The user is then logged in, and every reply was received.
+        ensures inside { OnOk result (self.new.is_in ≡ true) }
         // Otherwise what came of it is no success.
         ensures missed { IfErr result (λ outcome. is_well outcome ≡ false) }
+        // The name by which the user logs in stays.
+        ensures same { self.new.login ≡ self.old.login }
     {
         self.enter()?;
         let end = rename_file(&mut self.talk, FIRST, old, new, &mut self.progress);

@@ -5,6 +5,7 @@ use Rattle.file_copy.specs.Talk.{counted}
 use Rattle.file_client.specs.Caller.{TurnsOrStops}
 use Rattle.file_client.specs.Fault.{IsTurnFault}
 use Rattle.file_client.specs.Patience.{millis_waited}
+use Rattle.file_client.proofs.Asked.{well_by}
 use Rattle.file_client.proofs.Telling.{says_sent_at, says_received_at, says_turn_at}
 use Rattle.file_client.proofs.client.ClientTalk.TheImpl.Goals as goal
 
@@ -64,6 +65,7 @@ turn-tells g c = record {
 
 pub connect-tells : goal.connect-tells
 connect-tells g c = record {
+  connects = well_by c.result _ _ (λ well. (c.ensures.same_driver.1, well)) c.ensures.well;
   unfailed = c.ensures.unfailed;
   patient = ap (λ time. millis_waited (g.D.Driver.pace time).patience) c.ensures.same_driver.1;
   faults = subst (λ time. IfErr c.result (IsTurnFault (g.D.Driver.stops time) (g.D.Driver.failures c.new.self.now.driver)))

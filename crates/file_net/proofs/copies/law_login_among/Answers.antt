@@ -1,5 +1,0 @@
-use Rattle.file_net.proofs.Clients.{login_among}
-use Rattle.file_net.proofs.copies.law_login_among.Goals as goal
-
-pub returns : goal.returns
-returns c = login_among
