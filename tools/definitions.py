@@ -35,13 +35,13 @@ def made(line):
 
 
 class Module:
-    """A file of specs/: the text of each of its definitions, and whose the constructors are."""
+    """A file of specs/: the text of each of its definitions with the first and the last line of it, and whose the constructors are."""
 
     def __init__(self, file):
-        self.texts, self.makes = {}, {}
+        self.texts, self.lines, self.makes = {}, {}, {}
         text = re.sub(r"--(?=\s|-|$)[^\n]*", "", file.read_text())
         self.text, name, around = text, None, ""
-        for line in text.split("\n"):
+        for number, line in enumerate(text.split("\n"), 1):
             found = HEAD.match(line)
             if found:
                 name = found.group(2)
@@ -53,6 +53,8 @@ class Module:
             elif name:
                 self.texts[name] += f"\n{line}"
                 self.makes |= {word: name for word in made(line)} if "pub data" in self.texts[name] else {}
+            if name and line.strip():
+                self.lines[name] = self.lines.get(name, (number,))[0], number
 
     def name_of(self, word):
         """The definition that a word names: itself, or the datum that it constructs; None where it names none."""

@@ -4,38 +4,17 @@
 import re
 
 from definitions import Definitions, sum_of
+from met import Met, is_law
 from sources import without_words
+from tables import CALL, CLAUSES, LINK, UNNAMED, clauses_in, is_of_call, rows_of, section, without_rows
+from ways import PROGRAM, TITLE
 
-UNNAMED = "its one clause"
 DOCUMENTS = "README.md", "docs/PROVED.md"
 SUMS = "docs/proved.sums"
 TRUST, CRATES = "docs/TRUST.md", "crates.txt"
 MUST_READ, BELOW, OF_PROGRAM = "What you must read to believe it", "Below the code", "The program"
-PROGRAM = "chaosd"
-CALL = r"`((?:\w+::)?\w+)`"
-LINK = re.compile(rf"\[{CALL}\]\(([^)#\s]+)\)")
-NAMED = re.compile(rf"((?:`\w+`(?:, | and ))*`\w+`) of {CALL}")
+NAMED = re.compile(rf"({CLAUSES}) of {CALL}")
 ACCEPT = "then tools/claims --accept"
-
-
-def clauses_in(cell):
-    """The clauses that a cell names, None for the one without a name; or nothing where it says something else."""
-    if cell.replace("`", "") == UNNAMED:
-        return [None]
-    return re.findall(r"`(\w+)`", cell) if re.fullmatch(r"`\w+`(?:\s*,\s*`\w+`)*", cell) else []
-
-
-def rows_of(text):
-    """The rows of the tables of a document, each as the number of its line and its cells. A bar within backquotes divides nothing."""
-    for number, line in enumerate(text.split("\n"), 1):
-        if line.startswith("|"):
-            yield number, [it.strip() for it in re.findall(r"((?:`[^`]*`|\\\||[^|`])*)\|", line.strip()[1:])]
-
-
-def section(text, title):
-    """The section of a document below this heading, and how many lines stand before the section."""
-    before, _, rest = text.partition(f"\n## {title}\n")
-    return rest.partition("\n## ")[0], before.count("\n") + 2
 
 
 def crates_in(top):
@@ -77,13 +56,16 @@ class Rows:
         self.places, self.names, self.problems = {}, {}, []
         # the rows of the table of files to read: place, crate, call, and the files, each as a crate and a name
         self.order = []
+        # what is wrong with the column of what meets laws
+        self.unmet = []
         for file in (top / it for it in DOCUMENTS if (top / it).is_file()):
-            text = file.read_text()
+            text = without_rows(file.read_text(), TITLE)
             for number, cells in rows_of(text):
-                if len(cells) > 2 and re.match(rf"\[?{CALL}", cells[1]):
+                if is_of_call(cells):
                     self.row((file, number), cells)
             self.named(file, text)
             self.listed(file, text)
+            self.unmet += Met(self, file, text).problems if file == top / DOCUMENTS[-1] else []
 
     def wrong(self, place, problem):
         self.problems.append((*place, problem))
@@ -96,19 +78,25 @@ class Rows:
         elif linked:
             self.note(place, *linked, names)
 
-    def linked(self, place, cell):
-        """The crate and the call that a cell links to the call's source file. Notes what is wrong where the cell doesn't, and gives None."""
+    def link_of(self, page, cell):
+        """The crate and the call that a cell of a page links to the call's source file, and what is wrong where the cell doesn't."""
         link = LINK.fullmatch(cell)
-        file = (place[0].parent / link[2]).resolve() if link else self.top
+        file = (page.parent / link[2]).resolve() if link else self.top
         parts = file.relative_to(self.top).parts if file.is_relative_to(self.top) else ()
         if len(parts) < 4 or parts[0] != "crates" or parts[2] != "src" or not file.is_file():
-            return self.wrong(place, f"{cell} is no link to the source file of a call")
+            return None, f"{cell} is no link to the source file of a call"
         crate, call = parts[1], link[1]
         stands = [it.place[0].resolve() for it in self.sources.public(crate, call)]
         if file not in stands:
-            where = f"stands in {stands[0].relative_to(self.top)}" if stands else f"is no public call of {crate}"
-            return self.wrong(place, f"`{call}` {where}")
-        return crate, call
+            return None, f"`{call}` {f'stands in {stands[0].relative_to(self.top)}' if stands else f'is no public call of {crate}'}"
+        return (crate, call), None
+
+    def linked(self, place, cell):
+        """The crate and the call that a cell links. Notes what is wrong where the cell doesn't, and gives None."""
+        key, problem = self.link_of(place[0], cell)
+        if problem:
+            self.wrong(place, problem)
+        return key
 
     def listed(self, file, text):
         """Notes the rows of the table of files to read, behind its head: a link to a call, and files as `CRATE: NAME, NAME; CRATE: ..`."""
@@ -185,9 +173,10 @@ class Rows:
         rows = [(number, cells, LINK.fullmatch(cells[1])) for number, cells in rows_of(part) if len(cells) > 2]
         called, rests = self.called() if rows else set(), ""
         for number, cells, link in rows:
-            rests = rests if cells[-1].startswith("the same") else cells[-1]
+            said = "".join(cells[3:4])
+            rests = rests if said.startswith("the same") else said
             name = link[1].rpartition("::")[2] if link else ""
-            if link and not name.startswith("law_") and name not in called and not re.search(r"\bwraps\b", rests):
+            if link and not is_law(name) and name not in called and not re.search(r"\bwraps\b", rests):
                 yield self.top / DOCUMENTS[-1], before + number, f"{PROGRAM} never calls `{link[1]}`, and the row doesn't say what that call wraps"
 
     def sums(self):

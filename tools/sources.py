@@ -8,11 +8,11 @@ FUNCTION = re.compile(
 BLOCK = re.compile(r"\b(?P<word>impl|trait|mod)\b")
 CLAUSE = re.compile(r"\b(?P<word>requires|ensures|ghost)\s*\*?\s*(?P<name>\w+)?\s*$")
 DECLARED = re.compile(r"\b(?:enum|struct|const|type)\s+(?!fn\b)(\w+)")
-GHOST = re.compile(r"\bghost\s+\w+\s*[=:]\s*\{")
+GHOST = re.compile(r"\bghost\s+(\w+)\s*[=:]\s*\{")
 
 
 class Clause:
-    """A clause of a contract: `requires` or `ensures`, its name or None, its text, and the number of its first line."""
+    """A clause of a contract, `requires` or `ensures`, or a `ghost` member: its name or None, its text, and the number of its first line."""
 
     def __init__(self, word, name, text, line=0):
         self.word, self.name, self.text, self.line = word, name, text, line
@@ -101,6 +101,8 @@ class Crate:
         self.functions = {}
         # by the name of a type or a trait, what it is declared as, and what stands for it in contracts
         self.types, self.ghosts = {}, {}
+        # the ghost members that a file has for a type, by the file, the type and the member's name
+        self.members = {}
         self.traits = set()
         self.exports = set()
         self.is_library = (folder / "src/lib.rt").is_file()
@@ -127,7 +129,9 @@ class Crate:
         """Notes the ghost members that an impl or a trait has between these places."""
         while found := GHOST.search(text, at, end):
             at = end_of_braces(text, found.end() - 1)
-            self.ghosts.setdefault(owner, []).append((self.file, self.readable[found.start() : at]))
+            said, line = self.readable[found.start() : at], text.count("\n", 0, found.start()) + 1
+            self.ghosts.setdefault(owner, []).append((self.file, said))
+            self.members[self.file, owner, found.group(1)] = Clause("ghost", found.group(1), said, line)
 
     def items(self, text, at, owner, trait, in_trait):
         """Notes the functions among the items from this place on."""
