@@ -78,6 +78,7 @@ coverage: ## print the lines of the program that no simulated run reached, of 20
 pictures: ## draw the pictures of the documents again (python3, graphviz)
 	@tools/ladder --pictures docs/pictures
 	@tools/layers | tred | dot -Tsvg -o docs/pictures/layers.svg
+	@python3 bench/plot.py docs/SPEED.md > docs/pictures/lines.svg
 
 bench: bin/chaosd ## time everything beside the same work in plain Rust, and write docs/SPEED.md; bench-show, bench-lab and so on run one bench
 	@RT=$(RT) python3 bench/speed.py

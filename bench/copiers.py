@@ -125,11 +125,10 @@ class Copier:
 class Chaosd(Copier):
     """chaosd, or the plain Rust program, which has no options. With a key its datagrams are sealed."""
 
-    def __init__(self, name, program, window=None, carriage=None, retransmit=None, has_key=False):
+    def __init__(self, name, program, window=None, carriage=None, has_key=False):
         self.name, self.program, self.has_key = name, program, has_key
         self.carriage = ["--carriage", str(carriage)] if carriage else []
         self.window = ["--window", str(window)] if window else []
-        self.retransmit = ["--retransmit", str(retransmit)] if retransmit else []
 
     def key(self):
         """The option that names the key's file, which is written where it isn't there."""
@@ -143,7 +142,7 @@ class Chaosd(Copier):
 
     def server(self):
         peer = f"402={self.place.seen_client}"
-        return [self.program, "serve", *self.key(), *self.carriage, *self.window, *self.retransmit, "401", self.place.server, self.folder, peer]
+        return [self.program, "serve", *self.key(), *self.carriage, *self.window, "401", self.place.server, self.folder, peer]
 
     def is_there(self):
         return b"serves" in (self.scratch / "log").read_bytes()

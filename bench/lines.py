@@ -1,15 +1,17 @@
 #!/usr/bin/env python3
-"""Times a copy of 1 MiB over lines with a delay that lose some of their packets, beside other programs.
+"""Times a copy of 1 MiB over lines that lose packets, and over lines with a rate and a queue, beside other programs.
 
     make bench-lines, or bench/lines.py [PROGRAM [RUNS [AT_ONCE]]]
 
-PROGRAM is bin/chaosd by default. Each figure is the median of RUNS copies, 3 by default, each with a line and a seed of its own.
-AT_ONCE copies go on side by side, 12 by default: they wait for the line nearly all the time. The server of chaosd sends again after
-twice the round trip, as its operator is told to say. curl, scp and atftp need a line of devices (bench/line.py); TCP grows its windows
-by cubic, Linux's own choice, and curl also by bbr. What can't run here is said and left out.
+PROGRAM is bin/chaosd by default. Each figure is the median of RUNS copies, 3 by default, each with a line and a seed of its own. Over a
+line with a rate nothing is left to chance, so there each figure is that of one copy. AT_ONCE copies go on side by side, 24 by default:
+they wait for the line nearly all the time. chaosd has its usual options, but for the server's window and both carriages. curl, scp and
+atftp need a line of devices (bench/line.py); TCP grows its windows by cubic, Linux's own choice, and curl also by bbr. The bench reports
+which programs can't run here, and leaves them out.
 """
 
 import concurrent.futures
+import itertools
 import pathlib
 import statistics
 import subprocess
@@ -22,35 +24,40 @@ import line  # noqa: E402
 from copiers import FILE_DATA, FILE_LIMIT, Atftp, Chaosd, Curl, Scp, content_of, told_by  # noqa: E402
 
 PROGRAM = pathlib.Path(__file__).resolve().parent.parent / "bin/chaosd"
-RUNS, AT_ONCE = 3, 12
+RUNS, AT_ONCE = 3, 24
 DELAYS, SHARES = [0.020, 0.100], [0, 0.001, 0.01, 0.05]
+# the lines with a rate take 20 ms each way
+RATES, QUEUES, RATED_DELAY = [10_000, 100_000, 1_000_000], [20, 1_000], 0.020
+WAYS = ["put", "get"]
 WINDOWS, CARRIAGES = [13, 64], [1, 2]
-# with a hundredth lost a copy may take so many times as long as without, where the window is 64
-LOSSY, LOSSY_RATIO = 0.01, 3
-
-
-def wait_of(delay):
-    """The milliseconds after which a server sends again: twice the round trip."""
-    return max(20, round(4_000 * delay))
+# with such a share lost a copy may take so many times as long as without; over a line with a rate, so many times as long as its bytes or,
+# where the window bounds it, as its windows
+LOSSY, RATED_RATIO = {0.01: 2, 0.05: 4}, 1.3
 
 
 def name_of(window, carriage):
     return f"chaosd, window {window}, carriage {carriage}"
 
 
-def copiers_of(program, delay):
-    """A way to make each copier, by its name: each copy has its own."""
+def makers_of(program, over):
+    """How to make each copier that can run here, by its name: each copy has its own."""
     makers = {}
-    for own in [(window, carriage) for window in WINDOWS for carriage in CARRIAGES]:
+    for own in itertools.product(WINDOWS, CARRIAGES):
         name = name_of(*own)
-        makers[name] = lambda name=name, own=own: Chaosd(name, program, *own, wait_of(delay))
-    curls = {f"curl, {control}": lambda control=control: Curl(control) for control in ["cubic", "bbr"]}
-    return makers | curls | {"scp": Scp, "atftp, window 32": Atftp}
+        makers[name] = lambda name=name, own=own: Chaosd(name, program, *own)
+    makers |= {f"curl, {control}": lambda control=control: Curl(control) for control in ["cubic", "bbr"]}
+    makers |= {"scp": Scp, "atftp, window 32": Atftp}
+    for name, maker in list(makers.items()):
+        is_kept_out = over is line.of_datagrams and not name.startswith("chaosd")
+        if why := maker().missing() or is_kept_out and "it needs a line of devices":
+            print(f"    {name} is left out: {why}", flush=True)
+            del makers[name]
+    return makers
 
 
-def copied(copier, over, way, line_of):
+def copied(copier, over, way, manners):
     """The seconds that a copy takes over a line of its own."""
-    with tempfile.TemporaryDirectory() as name, over(*line_of, copier.control) as place:
+    with tempfile.TemporaryDirectory() as name, over(manners, copier.control) as place:
         top, content = pathlib.Path(name), content_of()
         here, far = top / "here", top / "far"
         here.mkdir()
@@ -64,31 +71,37 @@ def copied(copier, over, way, line_of):
         return spent
 
 
-def tried(maker, over, way, delay, lost, seed):
-    """The seconds of a copy; infinite, and said, where it failed."""
+def tried(maker, over, way, manners):
+    """The seconds of a copy; infinite, and reported, where it failed."""
     copier = maker()
     try:
-        return copied(copier, over, way, (delay, lost, seed))
+        return copied(copier, over, way, manners)
     except (OSError, subprocess.SubprocessError) as fault:
-        print(f"    {copier.name}: {way}, {delay * 1000:.0f} ms each way, {lost:.1%} lost: {told_by(fault)}", flush=True)
+        print(f"    {copier.name}: {way}, {manners}: {told_by(fault)}", flush=True)
         return float("inf")
 
 
-def all_copied(program, over, runs, at_once):
-    """The median seconds by delay, copier, share that is lost and way."""
-    jobs, told = {}, {}
+def lossy(runs):
+    """The lines that lose packets, each as often as it is run."""
+    for delay, lost in itertools.product(DELAYS, SHARES):
+        yield (delay, lost), [line.Manners(delay, lost, seed) for seed in range(runs)]
+
+
+def rated():
+    """The lines with a rate and a queue."""
+    for rate, queue in itertools.product(RATES, QUEUES):
+        yield (rate, queue), [line.Manners(RATED_DELAY, rate=rate, queue=queue)]
+
+
+def all_copied(makers, over, lines, at_once):
+    """The median seconds by line, copier and way."""
     with concurrent.futures.ThreadPoolExecutor(at_once) as pool:
-        for delay in DELAYS:
-            for name, maker in copiers_of(program, delay).items():
-                is_kept_out = over is line.of_datagrams and not name.startswith("chaosd")
-                if why := maker().missing() or is_kept_out and "it needs a line of devices":
-                    told[name] = why
-                    continue
-                for lost in SHARES:
-                    for way in ["put", "get"]:
-                        jobs[delay, name, lost, way] = [pool.submit(tried, maker, over, way, delay, lost, seed) for seed in range(runs)]
-    for name, why in told.items():
-        print(f"    {name} is left out: {why}", flush=True)
+        jobs = {
+            (key, name, way): [pool.submit(tried, maker, over, way, each) for each in manners]
+            for key, manners in lines
+            for name, maker in makers.items()
+            for way in WAYS
+        }
     return {key: statistics.median_low([run.result() for run in runs]) for key, runs in jobs.items()}
 
 
@@ -101,29 +114,53 @@ def limit_of(window, delay):
     return FILE_LIMIT / (window * FILE_DATA) * 2 * delay
 
 
-def print_table(figures):
-    head = "|".join(f"{lost:.1%} lost" if lost else "none lost" for lost in SHARES)
-    print("<!-- lines: written by make bench -->", f"put/get in seconds|{head}", "---|" * len(SHARES) + "---", sep="\n")
+def cell_of(figures, key, name):
+    return "/".join(short(figures[key, name, way]) for way in WAYS)
+
+
+def print_rows(title, head, rows):
+    print(f"<!-- {title}: written by make bench -->", f"put/get in seconds|{'|'.join(head)}", "---|" * len(head) + "---", sep="\n")
+    for name, cells in rows:
+        print(name, *cells, sep="|")
+    print(f"<!-- end of {title} -->", flush=True)
+
+
+def print_losses(figures, names):
+    rows = []
     for delay in DELAYS:
-        names = dict.fromkeys(name for at, name, _, _ in figures if at == delay)
-        for name in names:
-            cells = ["/".join(short(figures[delay, name, lost, way]) for way in ["put", "get"]) for lost in SHARES]
-            print(f"{delay * 1000:.0f} ms: {name}", *cells, sep="|")
+        at = f"{delay * 1000:.0f} ms"
+        rows += [(f"{at}: {name}", [cell_of(figures, (delay, lost), name) for lost in SHARES]) for name in names]
         for window in WINDOWS:
-            cells = [short(limit_of(window, delay)), *[""] * (len(SHARES) - 1)]
-            print(f"{delay * 1000:.0f} ms: the line's limit, window {window}", *cells, sep="|")
-    print("<!-- end of lines -->", flush=True)
+            rows.append((f"{at}: the line's limit, window {window}", [short(limit_of(window, delay)), *[""] * (len(SHARES) - 1)]))
+    print_rows("lines", [f"{lost:.1%} lost" if lost else "none lost" for lost in SHARES], rows)
 
 
-def print_missed(figures):
-    for delay in DELAYS:
-        for carriage in CARRIAGES:
-            for way in ["put", "get"]:
-                name = name_of(WINDOWS[-1], carriage)
-                ratio = figures[delay, name, LOSSY, way] / figures[delay, name, 0, way]
-                if ratio > LOSSY_RATIO:
-                    what = f"a {way} with {LOSSY:.0%} lost over one without loss, {delay * 1000:.0f} ms each way, carriage {carriage}"
-                    print(f"missed: `lines`, {what}: {ratio:.2f}, aim {LOSSY_RATIO}. A loss stops the stream until its packet goes again.")
+def named(rate):
+    """A rate as people write it: `100 kB/s`."""
+    return f"{rate // 1_000_000} MB/s" if rate >= 1_000_000 else f"{rate // 1_000} kB/s"
+
+
+def print_rates(figures, names):
+    keys = list(itertools.product(RATES, QUEUES))
+    rows = [(name, [cell_of(figures, key, name) for key in keys]) for name in names]
+    rows.append(("the bytes of the file alone", [short(FILE_LIMIT / rate) for rate, _ in keys]))
+    print_rows("rates", [f"{named(rate)}, queue {queue:,}" for rate, queue in keys], rows)
+
+
+def print_missed(losses, rates):
+    for delay, carriage, way in itertools.product(DELAYS, CARRIAGES, WAYS):
+        for window, (lost, aim) in itertools.product(WINDOWS, LOSSY.items()):
+            name = name_of(window, carriage)
+            ratio = losses[(delay, lost), name, way] / losses[(delay, 0), name, way]
+            if ratio > aim:
+                what = f"a {way} with {lost:.0%} lost over one without loss, {delay * 1000:.0f} ms each way, window {window}, carriage {carriage}"
+                print(f"missed: `lines`, {what}: {ratio:.2f}, aim {aim}. A loss stops the stream until its packet goes again.")
+    for (rate, queue), window, carriage, way in itertools.product(itertools.product(RATES, QUEUES), WINDOWS, CARRIAGES, WAYS):
+        ratio = rates[(rate, queue), name_of(window, carriage), way] / max(FILE_LIMIT / rate, limit_of(window, RATED_DELAY))
+        if ratio > RATED_RATIO:
+            what = f"a {way} at {named(rate)}, queue {queue:,}, window {window}, carriage {carriage}"
+            why = "A short queue overflows." if queue == min(QUEUES) else "A copy begins with 8 commands in flight."
+            print(f"missed: `lines`, {what}: {ratio:.2f} times the limit of its line, aim {RATED_RATIO}. {why}")
 
 
 def main():
@@ -135,9 +172,13 @@ def main():
     why = line.why_no_devices()
     if why:
         print(f"    no line of devices here, so a relay of datagrams carries chaosd alone: {why}")
-    figures = all_copied(program, line.of_datagrams if why else line.of_devices, runs, at_once)
-    print_table(figures)
-    print_missed(figures)
+    over = line.of_datagrams if why else line.of_devices
+    makers = makers_of(program, over)
+    losses = all_copied(makers, over, lossy(runs), at_once)
+    rates = all_copied(makers, over, rated(), at_once)
+    print_losses(losses, makers)
+    print_rates(rates, makers)
+    print_missed(losses, rates)
 
 
 if __name__ == "__main__":

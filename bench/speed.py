@@ -1,8 +1,8 @@
 #!/usr/bin/env python3
 """Runs all benches and writes what they tell into the tables of docs/SPEED.md: `make bench`, on a quiet machine.
 
-    bench/speed.py              runs the benches, keeps what they print in out/bench.log, and writes the tables
-    bench/speed.py --from LOG   writes the tables from what an earlier run kept
+    bench/speed.py              runs the benches, keeps what they print in out/bench.log, and writes the tables and docs/pictures/lines.svg
+    bench/speed.py --from LOG   writes both from what an earlier run kept
 
 A row of a table is a line of a bench; some benches print whole tables, between the marks that the document has. At the end stand the
 rows that miss their aim; docs/SPEED.md has them too, each with its reason where one is known.
@@ -18,8 +18,12 @@ import sys
 
 sys.dont_write_bytecode = True
 
+import plot  # noqa: E402
+
 ROOT = pathlib.Path(__file__).resolve().parent.parent
 DOCUMENT = ROOT / "docs/SPEED.md"
+# the picture of the tables of lines
+PICTURE = ROOT / "docs/pictures/lines.svg"
 LOG = ROOT / "out/bench.log"
 
 # benches of the program, each a script, and those of libraries, which bench/beside.py has
@@ -27,7 +31,7 @@ OF_PROGRAM = ["lines", "copies", "calls", "show", "lab", "loop", "stack", "simul
 OF_LIBRARIES = ["codec", "links", "window", "host", "file", "seal", "turn"]
 
 # the tables that benches print whole
-PRINTED = ["lines", "copies", "calls", "simulate"]
+PRINTED = ["lines", "rates", "copies", "calls", "simulate"]
 # how the line of a row begins that misses its aim, of such a table
 MISSED = "missed: "
 
@@ -282,8 +286,10 @@ def main():
     figures = figures_of(pathlib.Path(words[1]).read_text() if words else run_all())
     if faults := faults_of(figures):
         sys.exit(f"no bench told of {', '.join(faults)}: {DOCUMENT.name} stays as it was")
-    DOCUMENT.write_text(written(DOCUMENT.read_text(), figures))
-    print(f"\n{DOCUMENT.relative_to(ROOT)} is written. What misses its aim:\n{missed(figures)}")
+    text = written(DOCUMENT.read_text(), figures)
+    DOCUMENT.write_text(text)
+    PICTURE.write_text(plot.picture_of(text))
+    print(f"\n{DOCUMENT.relative_to(ROOT)} and {PICTURE.relative_to(ROOT)} are written. What misses its aim:\n{missed(figures)}")
 
 
 if __name__ == "__main__":

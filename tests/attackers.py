@@ -7,10 +7,8 @@ import struct
 import threading
 import time
 
-from tests.packets import CLS, DATA, LOS, OPN, RFC, SNS, asks_for_file, datagram
+from tests.packets import CLS, DATA, LOS, OPN, RFC, SNS, datagram
 from tests.support import CLIENT, LONG, REFUSED, SERVER, Case, at, folder, free_ports, mixed_content, run, serving
-
-NO_SERVER = b"No server for this contact name."
 
 
 def numbers(request):
@@ -19,8 +17,8 @@ def numbers(request):
 
 
 class Refusing(threading.Thread):
-    """A server that refuses each request for FILE, and keeps it with the moment when it came. Before, somebody else at another UDP
-    address refuses it in its name, where that is wished. Of the requests that measure a round trip it keeps the indices."""
+    """A server that refuses each request, and keeps it with the moment when it came. Before, somebody else at another UDP address
+    refuses it in its name, where that is wished."""
 
     def __init__(self, is_forged):
         super().__init__(daemon=True)
@@ -28,7 +26,7 @@ class Refusing(threading.Thread):
         self.socket = socket.socket(socket.AF_INET, socket.SOCK_DGRAM)
         self.socket.bind(("127.0.0.1", self.port))
         self.liar = socket.socket(socket.AF_INET, socket.SOCK_DGRAM) if is_forged else None
-        self.requests, self.measured, self.is_over = [], [], False
+        self.requests, self.is_over = [], False
 
     def run(self):
         while not self.is_over:
@@ -36,10 +34,6 @@ class Refusing(threading.Thread):
             if request[4:5] != bytes([RFC]):
                 continue
             answer = lambda text: datagram(CLS, (CLIENT, numbers(request)[0]), (SERVER, 0), 0, 0, text)
-            if not asks_for_file(request):
-                self.measured.append(numbers(request)[0])
-                self.socket.sendto(answer(NO_SERVER), client)
-                continue
             self.requests.append((time.time(), *numbers(request)))
             if self.liar:
                 self.liar.sendto(answer(b"Forged."), client)
@@ -119,16 +113,6 @@ class Guesses(Case):
             problems += [] if len(parts) >= 8 else [f"the numbers of {seen} are a clock's"]
             problems += [] if len(high) >= 12 else [f"the indices of {seen} are alike"]
             self.check(f"{command}: {RUNS} runs ask from numbers and indices that no clock gives", problems)
-
-    def test_all_requests_that_measure_have_a_generation_that_is_drawn(self):
-        with refusing() as server, folder() as here:
-            (here / "A").write_bytes(b"(A)")
-            for _ in range(3):
-                run(next(words for name, words, _ in lines(server, here / "A") if name == "put"))
-            runs = [{index >> 8 for index in server.measured[at : at + 16]} for at in range(0, len(server.measured), 16)]
-        self.check("three runs measure by 16 requests each", [] if len(server.measured) == 48 else [f"{len(server.measured)} came"])
-        self.check("the requests of a run have one generation", [each for each in runs if len(each) > 1])
-        self.check("three runs don't have the same generation", [] if len(set().union(*runs)) > 1 else runs)
 
 
 class Reflector(Case):

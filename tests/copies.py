@@ -9,7 +9,7 @@ import resource
 import time
 
 from tests.copying import NO_FILE, copied, copying, left_problems
-from tests.packets import DATA, EOF, RFC, asks_for_file
+from tests.packets import DATA, EOF
 from tests.support import (
     BAD_LINE, DONE, FAULT, FILE_LIMIT, FOR_LONG, IS_CHECKED, LONG, REFUSED,
     Case, Ended, Relay, finished, folder, mixed_content, network_before, run, serving, stored_problems,
@@ -107,16 +107,13 @@ class Whole(Case):
 
 
 class Again(Relay):
-    """A network that counts how often an end sends what it keeps again. Nobody answers a client there that measures how long a round
-    trip takes, so that each end waits for half a second before."""
+    """A network that counts how often an end sends what it keeps again."""
 
     def __init__(self, port, ends):
         super().__init__(port, ends)
         self.seen, self.is_again, self.rounds = set(), {}, 0
 
     def passed(self, datagram, port):
-        if datagram[4:5] == bytes([RFC]) and not asks_for_file(datagram):
-            return []
         if datagram[4:5] >= bytes([DATA]) or datagram[4:5] == bytes([EOF]):
             item = datagram[8:18]
             self.rounds += item in self.seen and not self.is_again.get(port)

@@ -30,10 +30,14 @@ def left_problems(folder):
     return [f"{each.name} is left" for each in folder.iterdir() if each.name.endswith(".part")]
 
 
+# What `--verbose` reports where packets were sent again: on a busy machine also where none was lost.
+LOSSES = rb"chaosd: \d+ loss(es)? on the way, after which packets were sent again\n"
+
+
 def told_problems(ended, pattern, status=REFUSED):
-    """What differs from this status, nothing on standard output, and a text like this on standard error."""
+    """What differs from this status, nothing on standard output, and a text like this on standard error, beside a count of losses."""
     found = ended.problems(status, b"")
-    return found + ([] if re.fullmatch(pattern, ended.err) else [f"error output {ended.err!r}"])
+    return found + ([] if re.fullmatch(pattern, re.sub(LOSSES, b"", ended.err)) else [f"error output {ended.err!r}"])
 
 
 class Changing(Relay):

@@ -496,13 +496,6 @@ class Dissector(Dissecting, Case):
         rows = self.tshark.fields(seen, ["chaosnet.file.line"], "-Y", f"{shown}.file and not {shown}.analysis.retransmission")
         told = [next((it for it in row[0].split("^")[0].split() if it in ("LOGIN", "OPEN", "WRITE", "CLOSE")), None) for row in rows]
         self.check("the other shows commands and replies", differences(told[::2], told[1::2]) + ([] if len(told) == 8 and all(told) else [str(rows)]))
-        rows = self.tshark.fields(seen, ["chaosnet.op", "chaosnet.contact", "chaosnet.src.index", "chaosnet.dst.index"])
-        asked = [it[2] for it in rows if it[:2] == [str(RFC), "RTT"]]
-        self.check("16 requests measure the round trip", [] if len(set(asked)) == 16 else asked)
-        begun = next(n for n, it in enumerate(rows) if it[:2] == [str(RFC), "FILE"])
-        self.check("the copy begins with them", [] if not {it[2] for it in rows[begun:] if it[1] == "RTT"} - {it[2] for it in rows[:begun]} else [str(rows)])
-        refused = {it[3] for it in rows if it[0] == str(CLS)}
-        self.check("each is answered by a CLS", sorted(set(asked) - refused))
 
     def test_a_reply_names_its_command_and_what_comes_again_is_told(self):
         me, host, new = (CLIENT, 0o1405), (SERVER, 0), (SERVER, 1)

@@ -1,5 +1,5 @@
 """Tests tools/ladder: draws the pictures of the documents again, and counts what stands in each ladder. The picture of the crates, which
-graphviz draws, has those of crates.txt."""
+graphviz draws, has those of crates.txt. The picture of copies over lines has the figures of docs/SPEED.md."""
 
 import collections
 import re
@@ -12,7 +12,7 @@ from tests.support import DONE, PATIENCE, ROOT, Case, folder, run
 LADDER = ROOT / "tools/ladder"
 LAYERS = ROOT / "tools/layers"
 PICTURES = ROOT / "docs/pictures"
-DOCUMENTS = [ROOT / "docs/LABORATORY.md", ROOT / "docs/PROTOCOL.md", ROOT / "docs/ARCHITECTURE.md"]
+DOCUMENTS = [ROOT / "docs/LABORATORY.md", ROOT / "docs/PROTOCOL.md", ROOT / "docs/ARCHITECTURE.md", ROOT / "docs/SPEED.md"]
 LOGIN = ROOT / "examples/login"
 SCRIPTS = sorted(path for path in ROOT.glob("examples/*lab/*") if path.suffix != ".txt")
 
@@ -93,7 +93,8 @@ class Ladders(Case):
             made = {path.name: path.read_text() for path in here.iterdir()}
         there = {path.name for path in PICTURES.iterdir()}
         self.check("there is a picture of each script", [] if len(made) == len(SCRIPTS) + 1 else [f"{sorted(made)} of {len(SCRIPTS)} scripts"])
-        made["layers.svg"] = (PICTURES / "layers.svg").read_text()
+        made |= {name: (PICTURES / name).read_text() for name in ["layers.svg", "packets.svg"]}
+        made["lines.svg"] = subprocess.run([sys.executable, ROOT / "bench/plot.py", ROOT / "docs/SPEED.md"], capture_output=True, text=True).stdout
         self.check("no others are there", [f"{name}" for name in sorted(there ^ set(made))])
         for name in sorted(there & set(made)):
             same = (PICTURES / name).read_text() == made[name]

@@ -7,11 +7,10 @@ import select
 import signal
 import socket
 import subprocess
-import time
 
 from tests.flood import Packet
 from tests.hosts import ServingTable, place, written
-from tests.packets import DATA, OPN, RFC, SNS, STS, datagram
+from tests.packets import CLS, DATA, OPN, RFC, SNS, STS, datagram
 from tests.pages import text_of
 from tests.sealed import calm
 from tests.sealing import called, sealed_serving
@@ -159,20 +158,23 @@ class Drawn(Case):
         return peer
 
     def test_a_request_draws_so_many_datagrams_and_no_more(self):
-        said = re.search(r"One request of (\d+) bytes draws (\d+) datagrams of (\d+) bytes in 30 seconds, and (\d+) with `--retransmit 100`", text_of("docs/SECURITY.md"))
+        said = re.search(r"One request of (\d+) bytes draws (\d+) datagrams of (\d+) bytes at most in 30 seconds, and (\d+) with `--retransmit 20`", text_of("docs/SECURITY.md"))
         asks, usual, drawn, often = map(int, said.groups())
         request = (RFC, (SERVER, 0), (CLIENT, 5), 5, 0, b"FILE")
         self.check("the request's bytes", [] if len(datagram(*request)) == asks else [str(len(datagram(*request)))])
-        with serving() as first, serving(options=["--retransmit", "100"]) as second:
+        with serving() as first, serving(options=["--retransmit", "20"]) as second:
             came = {self.drawn(server, *request): [] for server in (first, second)}
-            end = time.monotonic() + 36
-            while (left := end - time.monotonic()) > 0:
-                for peer in select.select(list(came), [], [], left)[0]:
+            # the server ends the connection by a CLS
+            while waiting := [peer for peer, seen in came.items() if CLS not in {it[4] for it in seen}]:
+                ready = select.select(waiting, [], [], LONG)[0]
+                for peer in ready:
                     came[peer].append(peer.recv(2_048))
+                if not ready:
+                    break
         for most, seen in zip((usual, often), came.values()):
             opened = [it for it in seen if it[4] == OPN]
-            problems = [] if 5 < len(opened) <= most + 1 and {len(it) for it in opened} == {drawn} else [f"{len(opened)} came"]
-            self.check(f"at most {most}", problems)
+            problems = [] if 5 < len(opened) < len(seen) <= most and max(map(len, seen)) == drawn else [f"{len(seen)} came"]
+            self.check(f"at most {most}, and the last is a CLS", problems + ([] if seen[-1][4] == CLS else ["no CLS came"]))
 
     def test_any_other_packet_draws_one_answer_of_so_many_bytes_at_most(self):
         most = int(re.search(r"Any other packet draws one answer at most, of (\d+) bytes at most", text_of("docs/SECURITY.md"))[1])

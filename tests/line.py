@@ -109,7 +109,7 @@ HELP = {
         "--key <FILE>        Seal the datagrams of each PEER with the key in FILE:\n",
         "--window <N>        Give each connection windows of N packets, 1 to 64:\n",
         "                    a client may have N commands in flight [default: 13]\n",
-        "--retransmit <MS>   Retransmit unacknowledged packets after MS\n                          milliseconds, 20 to 60000 [default: 500]\n",
+        "--retransmit <MS>   Retransmit unacknowledged packets after MS\n                          milliseconds, 20 to 60000 [default: measured]\n",
         "-q, --quiet             Log only errors, as --log quiet does\n",
         "--hosts <FILE>      Read addresses from the hosts table FILE; not in a\n                          line that begins with ADDRESS\n",
         "  chaosd serve files\n",

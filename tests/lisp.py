@@ -269,7 +269,7 @@ class Windows:
     """Each pair of windows, by each carriage."""
 
     def test_each_pair_of_windows_carries_files_whole(self):
-        """Each pair of windows carries files whole by each carriage, and none starves: that would take half a second for each file."""
+        """Each pair of windows carries files whole by each carriage, and none starves: that would take a retransmission for each file."""
         names, content = [f"F{n}" for n in range(16)], content_of(9_000)
         for (own, other), version in itertools.product([("1", "1"), ("1", "64"), ("64", "1"), ("13", "64")], ["1", "2"]):
             with serving(self.server, options=["--window", own, "--carriage", version]) as (host, here):

@@ -22,7 +22,7 @@ def datagram(op, dst, src, num=0, ack=0, body=b""):
 
 
 def asks_for_file(datagram):
-    """Whether a datagram of version 1 is a request for FILE: a client asks for a contact that nobody has, too, to measure a round trip."""
+    """Whether a datagram of version 1 is a request for FILE."""
     return datagram[4:5] == bytes([RFC]) and turned(datagram[20:24]) == b"FILE"
 
 

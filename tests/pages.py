@@ -176,10 +176,6 @@ class Quotations(Checking):
         wrong = [f"{it[0]} isn't host {it[1]} of subnet {it[2]}" for it in found if int(it[0], 8) != int(it[2], 8) * 0o400 + int(it[1], 8)]
         self.check("octal", wrong if len(found) > 2 else [str(found)])
 
-    def test_the_times_of_the_operators_table_are_taken(self):
-        times = re.findall(r"^\| [^|]+ \| (\d+)(?:, the default)? \|$", text_of("docs/OPERATING.md"), re.M)
-        self.check("each is from 20 to 60000", [it for it in times if not 20 <= int(it) <= 60_000] if len(times) > 4 else [str(times)])
-
     def test_the_version_of_the_pages_is_the_programs(self):
         said = subprocess.run([ROOT / "tools/version"], stdout=subprocess.PIPE, text=True)
         self.check("each place", said.stdout.splitlines() if said.returncode else [])

@@ -65,13 +65,16 @@ const OF_RUN: [&str; 8] = [
     "can't read the clock",
 ];
 
+/// How other such lines end.
+const NOTE_ENDS: [&str; 2] = ["was written and not closed, so its file was not kept", "on the way, after which packets were sent again"];
+
 /// Whether a line of standard error only notes something.
 pub fn is_note(line: &str) -> bool {
     if line == NO_LINE {
         return false;
     }
     let Some(text) = line.strip_prefix("chaosd: ") else { return true };
-    NOTES.iter().any(|note| text.starts_with(note)) || text.ends_with("was written and not closed, so its file was not kept")
+    NOTES.iter().any(|note| text.starts_with(note)) || NOTE_ENDS.iter().any(|end| text.ends_with(end))
 }
 
 impl History {

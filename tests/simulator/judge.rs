@@ -16,6 +16,10 @@ pub const MOST_CLIENT: usize = 512 << 10;
 
 /// On a network whose datagrams take longer, a client may give up although nothing goes wrong.
 const MOST_USUAL: u64 = 60_000_000;
+/// So it is on a line that carries fewer bytes a second.
+const LEAST_USUAL: u64 = 100_000;
+/// So many packets may arrive twice in any run: a timer of 20 milliseconds may run out while the acknowledgement of a flight is on its way.
+const SPARED: u64 = 8;
 /// A client that waits for so long while nothing goes wrong gets its reply, whatever was lost before.
 const LONG_WAIT: u64 = 5_000_000_000;
 
@@ -43,6 +47,7 @@ pub fn judge(scenario: &Scenario, record: &Record) -> Judgement {
         judge.judge_success(run);
     }
     judge.judge_history();
+    judge.judge_repeats();
     if judge.has(FaultKind::Flip) && !scenario.seal.has_keys() {
         judge.found.complaints.retain(|it| it.wrong.is_always_wrong());
     }
@@ -123,7 +128,7 @@ impl Judge<'_> {
         let none_is_late = all_ended_well && !self.has(FaultKind::Repeat) && !self.has(FaultKind::Delay);
         let is_stalled = waited && none_is_late && (said.contains("no reply came in") || said.contains("no connection opened in"));
         let is_spared = (run.begun < quiet || !is_first) && !is_stalled;
-        if is_spared || !is_served || has_clocks || self.scenario.pace.most > MOST_USUAL || run.is_final {
+        if is_spared || !is_served || has_clocks || !self.is_usual() || run.is_final {
             return;
         }
         let (errors, output) = (String::from_utf8_lossy(&run.errors), String::from_utf8_lossy(&run.output));
@@ -152,6 +157,20 @@ impl Judge<'_> {
         if !is_caused || is_late {
             self.complain(Wrong::ServerEnded, format!("the server ended with status {status}: {errors}"));
         }
+    }
+
+    /// Where nothing goes wrong and the network is fast enough, at most 1% of the packets arrive twice, beside 8.
+    fn judge_repeats(&mut self) {
+        let Some(repeats) = &self.record.repeats else { return };
+        if self.is_usual() && repeats.again > SPARED + repeats.arrived / 100 {
+            let text = format!("{} of {} packets arrived that had arrived before", repeats.again, repeats.arrived);
+            self.complain(Wrong::Repeated, text);
+        }
+    }
+
+    /// Whether the network is so fast that a client gives up only if something goes wrong.
+    fn is_usual(&self) -> bool {
+        self.scenario.pace.most <= MOST_USUAL && self.scenario.line.is_none_or(|line| line.bytes_a_second >= LEAST_USUAL)
     }
 
     fn judge_history(&mut self) {

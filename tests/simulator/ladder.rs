@@ -51,16 +51,10 @@ pub fn title(host: Host, hosts: usize) -> String {
     format!("{:o}, {role}", address(host))
 }
 
-/// Whether a datagram only measures the round trip: such trains are left out of a ladder.
-fn measures(text: &str) -> bool {
-    text.starts_with("RFC RTT") || text.starts_with("CLS No server for this contact")
-}
-
-fn arrow_of(sent: &Sent) -> Option<Arrow> {
+fn arrow_of(sent: &Sent) -> Arrow {
     let texts: Vec<String> = packets(&sent.bytes).into_iter().map(|packet| packet.text).collect();
-    let text = texts.join(" + ");
     let (from, to) = (host_of(sent.from.0), host_of(sent.to.0));
-    (!measures(&text)).then(|| Arrow { at: sent.at, from, to, text, arrivals: sent.arrivals.clone(), fate: sent.fate })
+    Arrow { at: sent.at, from, to, text: texts.join(" + "), arrivals: sent.arrivals.clone(), fate: sent.fate }
 }
 
 /// Whether a fault is seen at the arrow of its datagram, or at a mark.
@@ -72,7 +66,7 @@ fn is_seen(kind: FaultKind) -> bool {
 impl Ladder {
     /// The ladder of a run that was traced.
     pub fn of(scenario: &Scenario, record: &Record) -> Self {
-        let mut rows: Vec<Row> = record.trace.iter().filter_map(arrow_of).map(Row::Arrow).collect();
+        let mut rows: Vec<Row> = record.trace.iter().map(arrow_of).map(Row::Arrow).collect();
         rows.extend(record.marks.iter().cloned().map(Row::Mark));
         let others = record.happened.iter().filter(|fault| !is_seen(fault.kind));
         rows.extend(others.map(|fault| Row::Fault { at: fault.at, text: format!("{}:{}", fault.kind.name(), fault.index) }));

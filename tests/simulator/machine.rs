@@ -10,7 +10,7 @@ use crate::clock::Clock;
 use crate::coroutine::{self, Alone, Asked, SLOTS, TRAPPED};
 use crate::disk::Disk;
 use crate::image::{Image, BASE};
-use crate::net::{Host, Net, Pace};
+use crate::net::{Host, Line, Net, Pace};
 use crate::process::{Body, End, Process, Start, Wait};
 use crate::system::{Answer, Stop, System};
 
@@ -75,13 +75,13 @@ pub struct Machine {
 
 impl Machine {
     /// A world of that many hosts, whose disks are empty.
-    pub fn new(image: &'static Image, seed: u64, hosts: usize, pace: Pace, faults: Faults) -> Self {
+    pub fn new(image: &'static Image, seed: u64, hosts: usize, (pace, line): (Pace, Option<Line>), faults: Faults) -> Self {
         let alone = Alone::new();
         coroutine::catch_traps();
         calls::begin_with(image);
         Machine {
             now: 0,
-            net: Net::new(pace),
+            net: Net::new(pace, line),
             disks: (0..hosts).map(|_| Disk::new()).collect(),
             clocks: (0..hosts as u64).map(|host| Clock::new(&mut Chance::new(seed, "clock", host))).collect(),
             faults,
@@ -337,7 +337,7 @@ mod tests {
     const FOREVER: u64 = 1 << 60;
 
     fn machine(seed: u64, rates: [u64; FaultKind::ALL.len()]) -> Machine {
-        Machine::new(toy::image(), seed, 2, Pace { least: 1_000_000, most: 2_000_000 }, Faults::new(seed, rates, FOREVER, BTreeSet::new()))
+        Machine::new(toy::image(), seed, 2, (Pace { least: 1_000_000, most: 2_000_000 }, None), Faults::new(seed, rates, FOREVER, BTreeSet::new()))
     }
 
     fn start(machine: &mut Machine, host: Host, word: &str) -> ProcessId {

@@ -25,6 +25,7 @@ mod packets;
 mod pages;
 mod play;
 mod process;
+mod repeats;
 mod report;
 mod scenario;
 mod script;

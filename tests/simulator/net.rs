@@ -5,6 +5,7 @@
 
 use crate::chance::{Chance, FaultKind, Faults};
 use crate::errno::*;
+use crate::repeats::Repeats;
 use std::cmp::Ordering;
 use std::collections::{BinaryHeap, VecDeque};
 
@@ -17,6 +18,8 @@ pub type SocketId = usize;
 
 /// The most bytes that a datagram over IPv4 can have.
 const MOST_BYTES: usize = 65_507;
+/// The bytes of the headers of IP and UDP, which a line with a rate also carries.
+const HEADERS: usize = 28;
 /// The room that Linux gives a socket for what it hasn't received yet (net.core.rmem_default).
 const ROOM: usize = 212_992;
 /// The ports that Linux gives to sockets that ask for any (net.ipv4.ip_local_port_range).
@@ -41,6 +44,29 @@ pub fn host_of(ip_address: u32) -> Host {
 pub struct Pace {
     pub least: u64,
     pub most: u64,
+}
+
+/// How fast each way between two hosts carries datagrams, one after another, and how many wait at most for their turn. One that finds the
+/// queue full is lost.
+#[derive(Clone, Copy, PartialEq, Eq, Debug)]
+pub struct Line {
+    pub bytes_a_second: u64,
+    pub queue: usize,
+}
+
+impl Line {
+    /// The nanoseconds that a packet of data takes.
+    pub fn packet_time(self) -> u64 {
+        536 * SECOND / self.bytes_a_second
+    }
+}
+
+/// A way between two hosts, with a rate.
+struct Way {
+    from: Host,
+    to: Host,
+    /// When each datagram that waits for its turn has gone.
+    gone: VecDeque<u64>,
 }
 
 /// A datagram that a socket received.
@@ -183,6 +209,13 @@ impl Luck {
 /// The network of all hosts.
 pub struct Net {
     pace: Pace,
+    /// No rate bounds the ways where there is none.
+    line: Option<Line>,
+    ways: Vec<Way>,
+    /// How many datagrams found their queue full.
+    pub overflown: u64,
+    /// What was sent more than once, where that is counted.
+    pub repeats: Option<Repeats>,
     sockets: Vec<Socket>,
     ports: Vec<Port>,
     /// How many of the ports have no socket.
@@ -198,9 +231,10 @@ pub struct Net {
 }
 
 impl Net {
-    pub fn new(pace: Pace) -> Self {
-        let (sockets, ports, walls, trace) = (Vec::new(), Vec::new(), Vec::new(), Vec::new());
-        Net { pace, sockets, ports, closed: 0, walls, begun: 0, given: 0, traced: false, trace }
+    pub fn new(pace: Pace, line: Option<Line>) -> Self {
+        let (ways, sockets, ports, walls, trace) = (Vec::new(), Vec::new(), Vec::new(), Vec::new(), Vec::new());
+        let (overflown, repeats, closed, begun, given) = (0, None, 0, 0, 0);
+        Net { pace, line, ways, overflown, repeats, sockets, ports, closed, walls, begun, given, traced: false, trace }
     }
 
     /// A new socket of a host.
@@ -285,8 +319,11 @@ impl Net {
             self.note(now, (from, to), bytes, &[], Some(FaultKind::Partition));
         } else if luck.loss.is_some() {
             self.note(now, (from, to), bytes, &[], Some(FaultKind::Loss));
+        } else if let Some(wait) = self.queue_up((host_of(from.0), host_of(to.0)), bytes.len(), now) {
+            self.launch(socket, (from, to), bytes, (now, wait), luck);
         } else {
-            self.launch(socket, (from, to), bytes, now, luck);
+            self.overflown += 1;
+            self.note(now, (from, to), bytes, &[], Some(FaultKind::Loss));
         }
         Ok(bytes.len())
     }
@@ -392,6 +429,9 @@ impl Net {
             Some(end) if end.peer.is_none_or(|peer| peer == flight.datagram.from) => {
                 let room = room_of(flight.datagram.bytes.len());
                 if end.taken <= ROOM {
+                    if let Some(repeats) = &mut self.repeats {
+                        repeats.note((flight.datagram.from, (ip(end.host), end.port)), &flight.datagram.bytes);
+                    }
                     end.taken += room;
                     end.queue.push_back((flight.at, flight.datagram));
                 }
@@ -432,14 +472,34 @@ impl Net {
         self.walls.iter().any(|wall| (wall.from, wall.to) == (from, to) && now < wall.until)
     }
 
-    /// Lets a datagram fly, and what it is repeated by. The damage is to the first alone.
-    fn launch(&mut self, sender: SocketId, (from, to): (Address, Address), bytes: &[u8], now: u64, mut luck: Luck) {
+    /// How long a datagram waits until the line has carried it, or nothing where it finds the queue full.
+    fn queue_up(&mut self, (from, to): (Host, Host), size: usize, now: u64) -> Option<u64> {
+        let Some(line) = self.line else { return Some(0) };
+        let place = self.ways.iter().position(|way| (way.from, way.to) == (from, to)).unwrap_or_else(|| {
+            self.ways.push(Way { from, to, gone: VecDeque::new() });
+            self.ways.len() - 1
+        });
+        let gone = &mut self.ways[place].gone;
+        while gone.front().is_some_and(|&at| at <= now) {
+            gone.pop_front();
+        }
+        if gone.len() >= line.queue {
+            return None;
+        }
+        let takes = (size + HEADERS) as u64 * SECOND / line.bytes_a_second;
+        let at = gone.back().copied().unwrap_or(now) + takes;
+        gone.push_back(at);
+        Some(at - now)
+    }
+
+    /// Lets a datagram fly, and what it is repeated by. The damage is to the first alone. It has waited so long for the line.
+    fn launch(&mut self, sender: SocketId, (from, to): (Address, Address), bytes: &[u8], (now, wait): (u64, u64), mut luck: Luck) {
         let way = u64::from(from.0) << 32 | u64::from(to.0);
         let mut travel = Chance::new(now, "travel", way ^ u64::from(from.1) << 24 ^ u64::from(to.1) << 8);
         let fate = luck.fate();
         let damaged = luck.damage(bytes);
         let mut arrivals = Vec::new();
-        let mut first = now + self.pace.travel(&mut travel);
+        let mut first = now + wait + self.pace.travel(&mut travel);
         if let Some(chance) = &mut luck.delay {
             let most = *chance.pick(&[20 * MILLISECOND, 20 * MILLISECOND, 200 * MILLISECOND, 5 * SECOND]);
             first += chance.below(most);
@@ -449,7 +509,7 @@ impl Net {
         if let Some(mut chance) = luck.repeat {
             for _ in 0..=chance.below(3) {
                 let most = *chance.pick(&[2 * MILLISECOND, 200 * MILLISECOND, 200 * MILLISECOND, 30 * SECOND]);
-                let again = now + self.pace.travel(&mut travel) + chance.below(most);
+                let again = now + wait + self.pace.travel(&mut travel) + chance.below(most);
                 self.fly(sender, (from, to), bytes.to_vec(), (again, &mut travel));
                 arrivals.push(again);
             }
@@ -504,7 +564,7 @@ mod tests {
 
     /// A net with a server's socket and a client's.
     fn pair() -> (Net, SocketId, SocketId) {
-        let mut net = Net::new(PACE);
+        let mut net = Net::new(PACE, None);
         let (server, client) = (net.open(0), net.open(1));
         net.bind(server, SERVER).unwrap();
         net.bind(client, CLIENT).unwrap();
@@ -603,11 +663,32 @@ mod tests {
     }
 
     #[test]
+    fn a_line_with_a_rate_carries_one_datagram_after_another_and_its_queue_overflows() {
+        let line = Line { bytes_a_second: 100_000, queue: 20 };
+        let mut net = Net::new(Pace { least: 0, most: 0 }, Some(line));
+        let (server, client) = (net.open(0), net.open(1));
+        net.bind(server, SERVER).unwrap();
+        net.bind(client, CLIENT).unwrap();
+        let mut none = faults(1, &[], 0, 0);
+        for _ in 0..30 {
+            net.send(client, Some(SERVER), &[0; 472], 0, &mut none).unwrap();
+        }
+        // 500 bytes with their headers take 5 ms
+        assert_eq!(arrived(&mut net, server, 5 * MILLISECOND - 1).len(), 0);
+        assert_eq!(arrived(&mut net, server, 25 * MILLISECOND).len(), 5);
+        assert_eq!((arrived(&mut net, server, LATE).len(), net.overflown), (15, 10));
+        net.send(server, Some(CLIENT), &[0; 472], 0, &mut none).unwrap();
+        assert_eq!(arrived(&mut net, client, 5 * MILLISECOND).len(), 1, "the other way is free");
+        net.send(client, Some(SERVER), &[0; 472], SECOND, &mut none).unwrap();
+        assert_eq!(arrived(&mut net, server, SECOND + 5 * MILLISECOND).len(), 1, "the queue is empty again");
+    }
+
+    #[test]
     fn a_connected_socket_hears_once_that_a_port_is_closed() {
         let mut none = faults(1, &[], 0, 0);
         let mut heard = 0;
         for now in 1..40 {
-            let mut net = Net::new(PACE);
+            let mut net = Net::new(PACE, None);
             let (probe, other) = (net.open(1), net.open(1));
             net.connect(probe, SERVER);
             net.bind(other, CLIENT).unwrap();

@@ -45,7 +45,6 @@ fn packet(bytes: &[u8]) -> Option<(Packet, usize)> {
         "STS" if count >= 4 => {
             format!("STS receipt {} window {}", u16::from_le_bytes([data[0], data[1]]), u16::from_le_bytes([data[2], data[3]]))
         }
-        "RFC" if data.starts_with(b"RTT") => "RFC RTT".into(),
         "RFC" => format!("RFC {number} {}", shown(&data)),
         "DAT" => format!("DAT {number} ack {ack} {}", shown(&data)),
         "OPN" | "EOF" => format!("{kind} {number} ack {ack}"),
@@ -84,6 +83,19 @@ pub fn packets(datagram: &[u8]) -> Vec<Packet> {
     }
 }
 
+/// The data packets and EOFs of a datagram in clear: the index that each is for, the index that sent it, and its number.
+pub fn numbered(datagram: &[u8]) -> Vec<[u16; 3]> {
+    let (mut rest, mut list) = (datagram.get(4..).unwrap_or_default(), Vec::new());
+    while rest.len() >= 16 {
+        if matches!(kind_of(rest[0]), "DAT" | "EOF") {
+            list.push([word(rest, 3), word(rest, 5), word(rest, 6)]);
+        }
+        let size = 16 + usize::from(word(rest, 1) & 0xfff).div_ceil(2) * 2;
+        rest = rest.get(size..).unwrap_or_default();
+    }
+    list
+}
+
 #[cfg(test)]
 mod tests {
     use super::*;
@@ -94,7 +106,10 @@ mod tests {
         assert_eq!((packets(&request)[0].text.as_str(), packets(&request)[0].index), ("RFC 65534 FILE", 1));
         let mut two = vec![0x43, 0x48, 2, 2];
         two.extend([&request[4..], &request[4..]].concat());
-        assert_eq!(packets(&two).len(), 2);
+        assert_eq!((packets(&two).len(), numbered(&two).len()), (2, 0));
+        let mut data = request.to_vec();
+        data[4] = 128;
+        assert_eq!(numbered(&data), [[0, 1, 0xfffe]]);
         assert_eq!(
             (packets(b"CH\x03\x00")[0].kind, packets(b"C")[0].kind, packets(&request[..20])[0].kind),
             ("sealed", "damaged", "damaged")

@@ -5,6 +5,7 @@ use crate::image::Image;
 use crate::lines;
 use crate::machine::{Event, Machine, Noted, ProcessId};
 use crate::net::{Host, Sent};
+use crate::repeats::Repeats;
 use crate::process::{End, Start};
 use crate::scenario::{Scenario, Target, Task, Work};
 use crate::trial::Without;
@@ -70,6 +71,8 @@ pub struct Record {
     pub folder: BTreeMap<Vec<u8>, Vec<u8>>,
     pub marks: Vec<Mark>,
     pub trace: Vec<Sent>,
+    /// What arrived more than once, where nothing could go wrong and nothing was lost.
+    pub repeats: Option<Repeats>,
     pub calls: Vec<Noted>,
 }
 
@@ -118,11 +121,12 @@ struct Play<'a> {
 pub fn play(image: &'static Image, scenario: &Scenario, without: &Without, is_traced: bool) -> Record {
     let mut faults = Faults::new(scenario.seed, scenario.rates, scenario.until, without.faults.clone());
     faults.only = without.only.clone();
-    let mut machine = Machine::new(image, scenario.seed, scenario.hosts(), scenario.pace, faults);
+    let mut machine = Machine::new(image, scenario.seed, scenario.hosts(), (scenario.pace, scenario.line), faults);
     for (host, disk) in machine.disks.iter_mut().enumerate() {
         *disk = lines::disk(scenario, host);
     }
     (machine.net.traced, machine.traced) = (is_traced, is_traced);
+    machine.net.repeats = scenario.counts_repeats().then(Repeats::default);
     let mut agenda = vec![(scenario.server.begins, Duty::Serve)];
     agenda.extend(scenario.clients.iter().enumerate().map(|(place, client)| (client.begins, Duty::Work(place))));
     let mut play = Play {
@@ -165,7 +169,9 @@ fn commands_of(work: &Work, scenario: &Scenario) -> u64 {
 fn bound_of(work: &Work, scenario: &Scenario) -> u64 {
     let place = work.options.iter().position(|word| word == "--timeout" || word == "-t");
     let seconds = place.and_then(|place| work.options[place + 1].parse().ok()).unwrap_or(USUAL_PATIENCE);
-    BOUND + 2 * seconds.max(1) * SECOND + commands_of(work, scenario) * ROUNDS * scenario.pace.most
+    let rounds = commands_of(work, scenario) * ROUNDS;
+    let carried = scenario.line.map_or(0, |line| (rounds * scenario.clients.len() as u64 + line.queue as u64) * line.packet_time());
+    BOUND + 2 * seconds.max(1) * SECOND + rounds * scenario.pace.most + carried
 }
 
 impl Play<'_> {
@@ -365,6 +371,7 @@ impl Play<'_> {
         self.record.steps = self.machine.steps;
         self.record.digest = self.machine.digest;
         self.record.trace = std::mem::take(&mut self.machine.net.trace);
+        self.record.repeats = self.machine.net.repeats.take().filter(|_| self.machine.net.overflown == 0);
         self.record.calls = std::mem::take(&mut self.machine.trace);
         self.record
     }

@@ -5,7 +5,7 @@
 use crate::chance::{Chance, FaultKind};
 use crate::contents::{repeated, Contents};
 use crate::linear::Content;
-use crate::net::Pace;
+use crate::net::{Line, Pace};
 use crate::script::{Command, PIECE};
 use std::collections::BTreeSet;
 
@@ -112,6 +112,8 @@ pub struct Scenario {
     /// From this moment on nothing goes wrong.
     pub until: u64,
     pub pace: Pace,
+    /// What bounds how fast datagrams go, where anything does.
+    pub line: Option<Line>,
 }
 
 /// What is chosen for all operations of a scenario.
@@ -151,7 +153,8 @@ impl Scenario {
         let until = if chance.one_in(30) { 20 * SECOND } else { *chance.pick(&[300, 500, 1_000, 1_000, 2_000, 4_000]) * MILLISECOND };
         let server = server_of(&mut Chance::new(seed, "server", 0), seal);
         let names = NAMES[..style.names as usize].to_vec();
-        Scenario { seed, names, contents, seal, server, clients, rates, until, pace }
+        let line = line_of(&mut Chance::new(seed, "line", 0));
+        Scenario { seed, names, contents, seal, server, clients, rates, until, pace, line }
     }
 
     /// Leaves out these operations, which are pairs of a client and a place, and kinds of faults.
@@ -163,6 +166,14 @@ impl Scenario {
         for &kind in kinds {
             self.rates[kind as usize] = 0;
         }
+    }
+
+    /// Whether nothing can go wrong and all timers measure, so that a packet that arrives twice was sent again without need. Datagrams under
+    /// seal can't be read.
+    pub fn counts_repeats(&self) -> bool {
+        let is_fixed = |options: &[String]| options.iter().any(|option| option == "--retransmit");
+        let measures = !is_fixed(&self.server.options) && !self.clients.iter().flat_map(|client| &client.works).any(|work| is_fixed(&work.options));
+        measures && self.rates.iter().all(|&rate| rate == 0) && !self.seal.has_keys()
     }
 
     /// The machines of the world: the server's, those of the clients, and one for the gets at the end.
@@ -182,6 +193,13 @@ fn timeout_of(slowness: u64, chance: &mut Chance) -> u64 {
             *chance.pick(&[1, 1, 1, 2, 3])
         }
     }
+}
+
+/// Each second scenario has lines with a rate.
+fn line_of(chance: &mut Chance) -> Option<Line> {
+    let bytes_a_second = *chance.pick(&[0, 0, 0, 10_000, 100_000, 1_000_000]);
+    let queue = *chance.pick(&[20, 50, 1_000]);
+    (bytes_a_second > 0).then_some(Line { bytes_a_second, queue })
 }
 
 /// Once in how many chances each kind of fault happens.

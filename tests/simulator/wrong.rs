@@ -33,6 +33,8 @@ pub enum Wrong {
     Final,
     /// No order explains the history.
     Order,
+    /// Packets were sent again although nothing was lost and nothing was late.
+    Repeated,
 }
 
 impl Wrong {

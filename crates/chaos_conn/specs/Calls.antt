@@ -1,5 +1,5 @@
 -- The user's calls on a connection: writing, reading and closing.
-use Rattle.std.specs.Prelude.{ℕ, ◌+◌, ◌*◌, Bool, ◌&&◌, ◌==◌, nat_lt, nat_le, if◌then◌else◌, List, [], ◌∷◌, length, Option, Some, None, Result, Ok, Err, false, slice_get}
+use Rattle.std.specs.Prelude.{ℕ, ◌+◌, ◌*◌, Bool, ◌&&◌, ◌==◌, nat_lt, nat_le, if◌then◌else◌, List, [], ◌∷◌, length, Option, Some, None, Result, Ok, Err, false, not, is_some, slice_get}
 use Rattle.chaos_packet.specs.Item.{ItemView}
 use Rattle.chaos_packet.specs.Opcode.{op_cls, op_opn, op_unc, kind_of}
 use Rattle.chaos_packet.specs.Packet.{PacketView}
@@ -7,7 +7,7 @@ use Rattle.chaos_packet.specs.declared.limits.TheConstants.{MAX_DATA}
 use Rattle.chaos_packet.specs.declared.opcode.Kind.{Kind}
 use Rattle.chaos_packet.specs.declared.opcode.Kind.TheVariants as kind
 use Rattle.chaos_window.specs.Send.{SendView, outstanding_of, next_of}
-use Rattle.chaos_window.specs.Receive.{item_at, after_advance, after_announcement}
+use Rattle.chaos_window.specs.Receive.{item_at, after_advance, after_announcement, held_count}
 use Rattle.chaos_conn.specs.declared.fault.ConnFault.{ConnFault}
 use Rattle.chaos_conn.specs.declared.fault.ConnFault.TheVariants as fault
 use Rattle.chaos_conn.specs.declared.answers.ReadDone.{ReadDone}
@@ -93,6 +93,10 @@ read_at_end v (Some item) = quietly (record v { recv = after_advance v.recv }) (
 -- the next item to read, where it is held
 abbrev pub front_of : ConnView → Option ItemView
 front_of v = item_at v.recv 1
+
+-- an item is held, and the next isn't
+abbrev pub has_gap : ConnView → Bool
+has_gap v = nat_lt 0 (held_count v.recv) && not (is_some (front_of v))
 
 abbrev pub act_read : ConnView → Acted ReadEnd
 act_read v =

@@ -28,8 +28,9 @@ use std::marker::Model;
 /// - The tick: [`Conn::tick`], called now and then, sends what is due. [`Conn::next_due`] says when
 ///   something is due.
 /// - Looks, which change nothing: [`Conn::state`], [`Conn::config`], [`Conn::peer`],
-///   [`Conn::heard`], [`Conn::asked`], [`Conn::announced`], [`Conn::can_write`], [`Conn::drained`],
-///   [`Conn::keeps_opn`] and [`Conn::stored`].
+///   [`Conn::heard`], [`Conn::resent`], [`Conn::asked`], [`Conn::announced`], [`Conn::can_write`],
+///   [`Conn::drained`], [`Conn::sent`], [`Conn::receipted`], [`Conn::keeps_any`],
+///   [`Conn::keeps_opn`], [`Conn::due_at`] and [`Conn::stored`].
 ///
 /// The order: `new`; then `request`, or `take_request` and a reply; then packets, ticks, writes and
 /// reads as they come; then `close`. A call in the wrong state is refused, and changes nothing.

@@ -30,3 +30,4 @@ pub use limits::{MAX_PACKET_BYTES, USUAL_WINDOW, law_limits};
 pub use next_due::{earlier, law_quiet};
 pub use sending::NO_NUMBER;
 pub use state::{End, State};
+pub use time::Due;

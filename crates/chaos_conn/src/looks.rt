@@ -1,13 +1,13 @@
 //! What a connection shows.
-ghost use Rattle.std.specs.Prelude.{◌≡◌, ◌≤◌, length};
+ghost use Rattle.std.specs.Prelude.{◌≡◌, ◌≤◌, length, nat_lt};
 ghost use Rattle.std.specs.Option.{option_copied};
 ghost use Rattle.chaos_conn.specs.View.{IsConn};
-ghost use Rattle.chaos_conn.specs.Calls.{can_write, front_of, has_window, is_drained, keeps_opn, peer_of};
+ghost use Rattle.chaos_conn.specs.Calls.{can_write, front_of, has_gap, has_window, is_drained, keeps_opn, peer_of};
 
 use crate::config::ConnConfig;
 use crate::conn::Conn;
 use crate::state::State;
-use chaos_packet::{Item, Opcode};
+use chaos_packet::{Item, Opcode, PktNum};
 
 impl Conn {
     /// What the end is doing.
@@ -60,6 +60,15 @@ impl Conn {
         self.last
     }
 
+    /// A moment in milliseconds: kept items were sent again last then, or an item was sent then
+    /// where none was kept. The time to send again runs from this moment.
+    pub fn resent(&self) -> u64
+        // The time to send again runs from this moment.
+        ensures { result ≡ self.now.resent }
+    {
+        self.resent
+    }
+
     /// Which of the two ends asked for the connection.
     pub fn asked(&self) -> bool
         // The answer is whether this end made the request itself.
@@ -93,6 +102,48 @@ impl Conn {
         ensures { result ≡ is_drained self.now }
     {
         self.send.outstanding() == 0
+    }
+
+    /// How many items may be outstanding: the window that the peer announced, cut to the greatest,
+    /// and the greatest before that.
+    pub fn window(&self) -> u16
+        // This is the window of what the end sends.
+        ensures { result ≡ self.now.send.window }
+    {
+        self.send.window()
+    }
+
+    /// Whether an item is held, and an item before it is missing. So it is where a packet was lost,
+    /// or is late.
+    pub fn has_gap(&self) -> bool
+        // The answer is whether any item is held though the next isn't.
+        ensures { result ≡ has_gap self.now }
+    {
+        self.recv.held() > 0 && self.recv.front().is_none()
+    }
+
+    /// The number of the newest item that was sent.
+    pub fn sent(&self) -> PktNum
+        // This is the number last sent.
+        ensures { result ≡ self.now.send.sent }
+    {
+        self.send.last()
+    }
+
+    /// The number up to which all items that were sent arrived, as far as is known.
+    pub fn receipted(&self) -> PktNum
+        // This is the number last receipted.
+        ensures { result ≡ self.now.send.receipted }
+    {
+        self.send.receipted()
+    }
+
+    /// Whether any item is kept: it was sent, and isn't known to have arrived.
+    pub fn keeps_any(&self) -> bool
+        // The answer is whether at least one item is kept.
+        ensures { result ≡ nat_lt 0 (length self.now.send.kept) }
+    {
+        self.send.unreceipted() > 0
     }
 
     /// Whether the peer never replied to the OPN by which this end accepted its request. So it is

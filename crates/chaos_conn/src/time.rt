@@ -3,7 +3,7 @@ ghost use Rattle.std.specs.Prelude.{◌≡◌, ◌<◌, ◌≤◌, [], ◌∷◌
 ghost use Rattle.chaos_packet.specs.Outbox.{with_put, room_of};
 ghost use Rattle.chaos_conn.specs.Sending.{all_kept, item_packet, carries_ack};
 ghost use Rattle.chaos_packet.specs.Opcode.{kind_of};
-ghost use Rattle.chaos_conn.specs.Time.{is_down, is_resend_due, is_probe_due, due_of, tells, ticked_by};
+ghost use Rattle.chaos_conn.specs.Time.{at_moment, is_down, is_resend_due, is_probe_due, due_of, tells, ticked_by};
 ghost use Rattle.chaos_conn.specs.Acted.{Acts};
 ghost use Rattle.chaos_conn.specs.Act.{Tick, Ticks, Does};
 
@@ -14,8 +14,8 @@ use crate::state::State;
 use chaos_packet::{Item, Outbox, PktNum};
 use chaos_window::SendWindow;
 
-/// What may be due at a moment. It is public to the definitions of crates above, since the
-/// definition of a tick goes by it.
+/// What is due at a moment.
+#[derive(Clone, Copy, Debug, PartialEq, Eq)]
 pub enum Due {
     /// The peer counts as down.
     HostDown,
@@ -23,6 +23,7 @@ pub enum Due {
     Resend,
     /// The peer is probed.
     Probe,
+    /// Nothing is due.
     Nothing,
 }
 
@@ -38,8 +39,9 @@ impl Conn {
         // what is due.
         ensures { Does self.old (Tick now) self.new out.old out.new (Ticks result) }
     {
+        let due = self.due_at(now);
         self.last = self.last.max(now);
-        match self.due() {
+        match due {
             Due::HostDown => {
                 self.state = State::HostDown;
                 Ticked::Down
@@ -50,42 +52,48 @@ impl Conn {
         }
     }
 
-    /// What is due at the last moment.
-    fn due(&self) -> Due
-        ensures { result ≡ due_of self.now }
+    /// What a tick at a moment would do. Nothing changes.
+    pub fn due_at(&self, now: u64) -> Due
+        // This is the first of the three that applies at this moment, or Nothing.
+        ensures { result ≡ due_of (at_moment self.now now) }
     {
-        if self.is_down() {
+        let last = self.last.max(now);
+        if self.is_down(last) {
             Due::HostDown
-        } else if self.is_resend_due() {
+        } else if self.is_resend_due(last) {
             Due::Resend
-        } else if self.is_probe_due() {
+        } else if self.is_probe_due(last) {
             Due::Probe
         } else {
             Due::Nothing
         }
     }
 
-    /// Whether the peer was not heard for so long that it counts as down.
-    fn is_down(&self) -> bool
-        ensures { result ≡ is_down self.now }
+    /// Whether the peer was not heard for so long that it counts as down at this moment.
+    fn is_down(&self, last: u64) -> bool
+        requires { self.now.last ≤ last }
+        ensures { result ≡ is_down (record self.now { last = last }) }
     {
-        self.state.awaits_peer() && self.last - self.heard >= self.config.down()
+        self.state.awaits_peer() && last - self.heard >= self.config.down()
     }
 
-    /// Whether items are kept that weren't sent again for so long that they are sent now.
-    fn is_resend_due(&self) -> bool
-        ensures { result ≡ is_resend_due self.now }
+    /// Whether items are kept that weren't sent again for so long that they are sent at this
+    /// moment.
+    fn is_resend_due(&self, last: u64) -> bool
+        requires { self.now.last ≤ last }
+        ensures { result ≡ is_resend_due (record self.now { last = last }) }
     {
         self.state.awaits_peer()
             && self.send.unreceipted() > 0
-            && self.last - self.resent >= self.config.retransmit()
+            && last - self.resent >= self.config.retransmit()
     }
 
-    /// Whether the peer was neither heard nor probed for so long that it is probed now.
-    fn is_probe_due(&self) -> bool
-        ensures { result ≡ is_probe_due self.now }
+    /// Whether the peer was neither heard nor probed for so long that it is probed at this moment.
+    fn is_probe_due(&self, last: u64) -> bool
+        requires { self.now.last ≤ last }
+        ensures { result ≡ is_probe_due (record self.now { last = last }) }
     {
-        self.state.is_open() && self.last - self.heard.max(self.probed) >= self.config.probe()
+        self.state.is_open() && last - self.heard.max(self.probed) >= self.config.probe()
     }
 
     /// Sends all kept items again.

@@ -16,6 +16,7 @@ use Rattle.chaos_node.specs.Arrive.{Arrival, arrival_from}
 use Rattle.chaos_node.specs.Link.{datagrams_of, sent_by, sent_into}
 use Rattle.chaos_node.specs.Phase.{Effect}
 use Rattle.chaos_node.specs.Turn.{client_phases, queue_after}
+use Rattle.chaos_node.specs.declared.timer.RetransmitTimer.{RetransmitTimer}
 use Rattle.chaos_net.specs.Queue.{IsLaid, IsAskedToPost, IsCarried, QueuesCarry, SocketsPost, SocketsPostToFixedPeers, TurnsAreSteps}
 use Rattle.chaos_net.specs.System.{Hands, handed}
 
@@ -101,31 +102,32 @@ queues_carry asked N may_wait carriage came lots before after result queue other
     q.0 q.1
 
 -- a datagram that carries no packet is as none
-pub same_phases : (others : List Addressed) (number : Option ℕ) (came : Arrival) (now : ℕ) (h : HostView)
-    → Hands others number came → client_phases came now h ≡ client_phases (handed others number) now h
-same_phases others None None now h hands = refl
-same_phases others None (Some (Err fault)) now h hands = refl
-same_phases others None (Some (Ok packets)) now h hands = ap (λ (o : Arrival). client_phases o now h) hands
-same_phases others (Some k) came now h hands = ap (λ (o : Arrival). client_phases o now h) hands
+pub same_phases : (timers : List RetransmitTimer) (others : List Addressed) (number : Option ℕ) (came : Arrival) (now : ℕ)
+    (h : HostView) → Hands others number came
+    → client_phases timers came now h ≡ client_phases timers (handed others number) now h
+same_phases timers others None None now h hands = refl
+same_phases timers others None (Some (Err fault)) now h hands = refl
+same_phases timers others None (Some (Ok packets)) now h hands = ap (λ (o : Arrival). client_phases timers o now h) hands
+same_phases timers others (Some k) came now h hands = ap (λ (o : Arrival). client_phases timers o now h) hands
 
 pub turns_are_steps : (asked : List Ask → Type 0) → TurnsAreSteps asked
-turns_are_steps asked may_wait carriage start now before after result answer posts others number runs is none = (
-  record {
-    carriage = carriage;
-    lots = (client_phases runs.came now before.node).lots;
-    turn =
-        (runs.host ∙ ap (λ (e : Effect). e.host) (same_phases others number runs.came now before.node is), ap (λ (e : Effect). e.lots) (same_phases others number runs.came now before.node is));
-    read = runs.link.read;
-    waiting = none;
-    posts = refl;
-  },
-  record {
-    first = datagrams_of carriage before.outbox.packets;
-    last = sent_by carriage (client_phases runs.came now before.node).lots;
-    all = refl;
-    asks = runs.link.asks;
-  },
-)
+turns_are_steps asked timers may_wait carriage start now before after result answer posts others number runs is none =
+    let same = same_phases timers others number runs.came now before.node is in (
+      record {
+        carriage = carriage;
+        lots = (client_phases timers runs.came now before.node).lots;
+        turn = (timers, runs.host ∙ ap (λ (e : Effect). e.host) same, ap (λ (e : Effect). e.lots) same);
+        read = runs.link.read;
+        waiting = none;
+        posts = refl;
+      },
+      record {
+        first = datagrams_of carriage before.outbox.packets;
+        last = sent_by carriage (client_phases timers runs.came now before.node).lots;
+        all = refl;
+        asks = runs.link.asks;
+      },
+    )
 
 -- a receive is asked to send nothing
 receipt_out : (peers : PeersView) (first last : List Addressed) (may_wait : Bool)

@@ -1,5 +1,5 @@
 -- Packets that come, and phases over packets and slots.
-use Rattle.std.proofs.Common.{◌≡◌, ℕ, zero, suc, List, [], ◌∷◌, Some, sym, ◌∙◌, subst, append-nil}
+use Rattle.std.proofs.Common.{◌≡◌, ℕ, zero, suc, Bool, true, false, if◌then◌else◌, List, [], ◌∷◌, Some, sym, ◌∙◌, subst, append-nil}
 use Rattle.std.specs.Prelude.{slice_get}
 use Rattle.chaos_packet.specs.Packet.{PacketView}
 use Rattle.chaos_host.specs.View.{HostView}
@@ -10,8 +10,10 @@ use Rattle.chaos_lab.specs.Machine.{other}
 use Rattle.chaos_net.specs.Net.{Sent, Net, CanHappen, after_events, happens}
 use Rattle.chaos_net.specs.Net.NetEvent.{At, Arrives}
 use Rattle.chaos_node.specs.Link.{singly}
-use Rattle.chaos_node.specs.Phase.{Effect, over_packets, over_slots}
+use Rattle.chaos_node.specs.Phase.{Effect, no_effect_on, over_packets, over_slots}
 use Rattle.chaos_node.specs.Slots.{tick_at}
+use Rattle.chaos_node.specs.Timer.{holds_at, tick_by}
+use Rattle.chaos_node.specs.declared.timer.RetransmitTimer.{RetransmitTimer}
 use Rattle.chaos_net.specs.Come.{Upon, AreFresh, AreSent, coming}
 use Rattle.chaos_net.specs.MadeTurns.{IsMade, Makes}
 use Rattle.chaos_node.proofs.Queue.{packets_of_each}
@@ -56,6 +58,18 @@ tick_made x now place n =
     made_in n (happens n (At x (Ticks place now))) x (effect_at (n x).host (Ticks place now)) (singly packets)
     (packets_of_each packets ∙ sym (append-nil packets)) (own_made n x (Ticks place now) tt)
 
+-- A timer holds the tick back, and no event happens. Or it doesn't, and the slot is ticked.
+timed_tick_made : (timers : List RetransmitTimer) (x : Side) (now place : ℕ) (n : Net)
+    → Makes n x (tick_by timers now place (n x).host)
+timed_tick_made timers x now place n =
+    elim (holds_at timers now place (n x).host)
+    as (λ (held : Bool). Makes n x (if held then no_effect_on (n x).host else tick_at now place (n x).host))
+    [ true ↦ (n, none_made n x) | false ↦ (happens n (At x (Ticks place now)), tick_made x now place n) ]
+
+pub timed_ticks_made : (timers : List RetransmitTimer) (x : Side) (now size : ℕ) (n : Net)
+    → Makes n x (over_slots (tick_by timers now) size (n x).host)
+timed_ticks_made timers x now size n = slots_made x (tick_by timers now) (timed_tick_made timers x now) size n
+
+-- without timers each slot is ticked
 pub ticks_made : (x : Side) (now size : ℕ) (n : Net) → Makes n x (over_slots (tick_at now) size (n x).host)
-ticks_made x now size n =
-    slots_made x (tick_at now) (λ place m. (happens m (At x (Ticks place now)), tick_made x now place m)) size n
+ticks_made x now size n = timed_ticks_made [] x now size n

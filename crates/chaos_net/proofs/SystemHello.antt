@@ -30,14 +30,14 @@ use Rattle.chaos_net.specs.Turns.{client_host, client_turns, client_upon}
 
 a_turn : (s : System HostView) (x : Side) (number : Option ℕ) (start now : ℕ)
     → read_all
-    (sent_by One ((s x).waiting ∷ (client_phases (handed (s (other x)).posts number) now (s x).program).lots))
-    ≡ packets_of ((s x).waiting ∷ (client_phases (handed (s (other x)).posts number) now (s x).program).lots)
+    (sent_by One ((s x).waiting ∷ (client_phases [] (handed (s (other x)).posts number) now (s x).program).lots))
+    ≡ packets_of ((s x).waiting ∷ (client_phases [] (handed (s (other x)).posts number) now (s x).program).lots)
     → Steps client_host client_turns s (Turn x number start now) (after_step s (Turn x number start now))
 a_turn s A number start now read = (
   record {
     carriage = One;
-    lots = (client_phases (handed (s B).posts number) now (s A).program).lots;
-    turn = (refl, refl);
+    lots = (client_phases [] (handed (s B).posts number) now (s A).program).lots;
+    turn = ([], refl, refl);
     read = read;
     waiting = refl;
     posts = refl;
@@ -47,8 +47,8 @@ a_turn s A number start now read = (
 a_turn s B number start now read = (
   record {
     carriage = One;
-    lots = (client_phases (handed (s A).posts number) now (s B).program).lots;
-    turn = (refl, refl);
+    lots = (client_phases [] (handed (s A).posts number) now (s B).program).lots;
+    turn = ([], refl, refl);
     read = read;
     waiting = refl;
     posts = refl;
@@ -164,8 +164,8 @@ data_comes = first_comes net_9 B 2 9 _ refl
 abbrev IsRead : System HostView → Step → Type 0
 IsRead s (Turn x number start now) =
     read_all
-    (sent_by One ((s x).waiting ∷ (client_phases (handed (s (other x)).posts number) now (s x).program).lots))
-    ≡ packets_of ((s x).waiting ∷ (client_phases (handed (s (other x)).posts number) now (s x).program).lots)
+    (sent_by One ((s x).waiting ∷ (client_phases [] (handed (s (other x)).posts number) now (s x).program).lots))
+    ≡ packets_of ((s x).waiting ∷ (client_phases [] (handed (s (other x)).posts number) now (s x).program).lots)
 IsRead s (Calls x e) = IsOwn e
 
 one_step : (s : System HostView) (step : Step) → IsRead s step

@@ -17,6 +17,7 @@ use Rattle.chaos_node.specs.Link.{sent_by}
 use Rattle.chaos_node.specs.Station.{Station}
 use Rattle.chaos_node.specs.Turn.{GoesOver, RunsClientTurn, client_phases}
 use Rattle.chaos_node.specs.declared.end.TurnEnd.{TurnEnd}
+use Rattle.chaos_node.specs.declared.timer.RetransmitTimer.{RetransmitTimer}
 use Rattle.chaos_net.specs.System.{Seat, Hands, TakesTurn, handed}
 use Rattle.chaos_net.specs.Turns.{client_host, client_turns}
 
@@ -53,18 +54,20 @@ pub record IsAskedToPost (asked : List Ask → Type 0) (may_wait : Bool) (posted
   pub all : posted ≡ first ++ last
   pub asks : asked (to_send first ++ Receive may_wait ∷ to_send last)
 
--- Each turn that a client runs over any link, as the contract of `client_turn` describes the turn, is a step of a system.
--- The premises: a datagram of the other program came, or a datagram without a packet, or nothing; and the turn leaves an
--- empty outbox. The link was asked to send exactly what the step posts: a turn gives any link what it gives a queue.
+-- Each turn that a client runs over any link with any timers, as the contract of `client_turn` or `timed_client_turn`
+-- describes the turn, is a step of a system. The premises: a datagram of the other program came, or a datagram without a
+-- packet, or nothing; and the turn leaves an empty outbox. The link was asked to send exactly what the step posts: a turn
+-- gives any link what it gives a queue.
 abbrev pub TurnsAreSteps : (List Ask → Type 0) → Type 0
-TurnsAreSteps asked = (may_wait : Bool) (carriage : Carriage) (start now : ℕ) (before after : Station HostView)
-    (result : TurnEnd) (answer : Option HostDelivered) (posts others : List Addressed) (number : Option ℕ)
-    → (runs : RunsClientTurn asked may_wait carriage now before after result answer) → Hands others number runs.came
-    → after.outbox.packets ≡ []
+TurnsAreSteps asked = (timers : List RetransmitTimer) (may_wait : Bool) (carriage : Carriage) (start now : ℕ)
+    (before after : Station HostView) (result : TurnEnd) (answer : Option HostDelivered) (posts others : List Addressed)
+    (number : Option ℕ) → (runs : RunsClientTurn timers asked may_wait carriage now before after result answer)
+    → Hands others number runs.came → after.outbox.packets ≡ []
     → TakesTurn client_host client_turns (handed others number) start now (seat_of before posts)
-    (seat_of after (posts ++ sent_by carriage (before.outbox.packets ∷ (client_phases runs.came now before.node).lots)))
+    (seat_of after
+    (posts ++ sent_by carriage (before.outbox.packets ∷ (client_phases timers runs.came now before.node).lots)))
     × IsAskedToPost asked may_wait
-    (sent_by carriage (before.outbox.packets ∷ (client_phases runs.came now before.node).lots))
+    (sent_by carriage (before.outbox.packets ∷ (client_phases timers runs.came now before.node).lots))
 
 -- If the link is a link over UDP, then its socket was asked to send exactly these datagrams, in this order, each to the
 -- UDP address of its peer, else to the bridge, and nothing for an address with neither. The datagrams before the receive

@@ -31,13 +31,13 @@ use Rattle.chaos_node.specs.Turn.{client_phases}
 use Rattle.chaos_net.specs.System.{Seat, System, Step, Turn, Calls, Steps, IsFreshStep, StandsFor, handed}
 use Rattle.chaos_net.specs.Turns.{client_host, client_turns, client_upon}
 
--- ---- the nodes after a step, with version 1 of the carriage
+-- ---- the nodes after a step, with version 1 of the carriage and without timers
 
 abbrev pub turned : Seat HostView → Arrival → ℕ → Seat HostView
 turned s came now = record {
-  program = (client_phases came now s.program).host;
+  program = (client_phases [] came now s.program).host;
   waiting = [];
-  posts = s.posts ++ sent_by One (s.waiting ∷ (client_phases came now s.program).lots);
+  posts = s.posts ++ sent_by One (s.waiting ∷ (client_phases [] came now s.program).lots);
 }
 
 abbrev pub called : Seat HostView → HostEvent → Seat HostView

@@ -25,7 +25,7 @@ abbrev pub tick_turns : Turns HostView
 tick_turns came start now s t lots =
     (came ≡ None) × (t ≡ (tick_all now s).host) × (lots ≡ (tick_all now s).lots)
 
--- whole turns and halves; each thing that the owner does between halves is a call
+-- whole turns with any timers, and halves; each thing that the owner does between halves is a call
 abbrev pub node_turns : Turns HostView
 node_turns came start now s t lots =
     client_turns came start now s t lots ⊎ (arrival_turns came start now s t lots ⊎ tick_turns came start now s t lots)

@@ -1,7 +1,7 @@
 -- A turn of a program is a run of the network's events.
 --
---    a turn:   deliver what came               tick each slot
---    events:   Arrives, one for each packet    Ticks, one for each slot
+--    a turn:   deliver what came               tick each slot whose timer doesn't hold the tick back
+--    events:   Arrives, one for each packet    Ticks, one for each slot that is ticked
 use Rattle.std.specs.Prelude.{◌≡◌, ℕ, Bool, List, Option}
 use Rattle.chaos_packet.specs.Packet.{PacketView}
 use Rattle.chaos_host.specs.View.{HostView}
@@ -14,6 +14,7 @@ use Rattle.chaos_node.specs.Arrive.{Arrival}
 use Rattle.chaos_node.specs.Station.{Station}
 use Rattle.chaos_node.specs.Turn.{RunsClientTurn, client_phases}
 use Rattle.chaos_node.specs.declared.end.TurnEnd.{TurnEnd}
+use Rattle.chaos_node.specs.declared.timer.RetransmitTimer.{RetransmitTimer}
 use Rattle.chaos_net.specs.Come.{Upon, ComeFrom, ComeFresh, nothing_upon}
 use Rattle.chaos_net.specs.MadeTurns.{Makes}
 
@@ -39,20 +40,21 @@ client_host h = h
 abbrev pub client_upon : HostView → ℕ → ℕ → Upon
 client_upon h start now = nothing_upon
 
--- the turns of a client
+-- the turns of a client, with any timers
 abbrev pub client_turns : Turns HostView
-client_turns came start now s t lots =
-    (t ≡ (client_phases came now s).host) × (lots ≡ (client_phases came now s).lots)
+client_turns came start now s t lots = (timers : List RetransmitTimer)
+    × (t ≡ (client_phases timers came now s).host) × (lots ≡ (client_phases timers came now s).lots)
 
 abbrev pub ClientTurnsAreRuns : Type 0
 ClientTurnsAreRuns = TurnsAreRuns client_host client_upon client_turns
 
--- The same holds for each turn that a client runs over a link, as the contract of `client_turn` describes the turn,
--- whatever the link was asked.
+-- The same holds for each turn that a client runs over a link, as the contract of `client_turn` or `timed_client_turn`
+-- describes the turn, whatever the timers are and whatever the link was asked.
 abbrev pub RunsAreRuns : (List Ask → Type 0) → Type 0
-RunsAreRuns asked = (n : Net) (x : Side) (numbers : List ℕ) (may_wait : Bool) (carriage : Carriage) (now : ℕ)
-    (before after : Station HostView) (result : TurnEnd) (answer : Option HostDelivered) → (n x).host ≡ before.node
-    → (runs : RunsClientTurn asked may_wait carriage now before after result answer)
+RunsAreRuns asked = (n : Net) (x : Side) (numbers : List ℕ) (timers : List RetransmitTimer) (may_wait : Bool)
+    (carriage : Carriage) (now : ℕ) (before after : Station HostView) (result : TurnEnd) (answer : Option HostDelivered)
+    → (n x).host ≡ before.node
+    → (runs : RunsClientTurn timers asked may_wait carriage now before after result answer)
     → ComeFrom n x numbers runs.came
     → ComeFresh nothing_upon n x now numbers runs.came
-    → Makes n x (record { host = after.node; lots = (client_phases runs.came now before.node).lots })
+    → Makes n x (record { host = after.node; lots = (client_phases timers runs.came now before.node).lots })

@@ -16,10 +16,11 @@ pub fn law_client_turns<L: Link>()
     // A turn of a client is a run of the network's events, from any net that has the client's host
     // at a side. Let the other host have sent the packets that came, and let each packet be fresh.
     // Then the run leads to a net that has the host after the turn. This side has sent exactly the
-    // packets of the turn's lots in addition, in order, and the other station is unchanged.
+    // packets of the turn's lots in addition, in order, and the other station is unchanged. The
+    // turn may have any timers: no event happens in a slot whose timer holds the tick back.
     ensures turns { ClientTurnsAreRuns }
-    // The same holds for each turn over a link, as the contracts of `client_turn` and `Node::turn`
-    // describe a turn.
+    // The same holds for each turn over a link, as the contracts of `client_turn`,
+    // `timed_client_turn` and `Node::turn` describe a turn.
     ensures runs { (old new : L) → RunsAreRuns (Asks (L.asked old) (L.asked new)) }
 {}
 
@@ -29,8 +30,8 @@ pub fn law_nodes()
     // There is a net behind two new nodes.
     ensures begin { NewSystemsStand client_host }
     // There is a net behind the nodes after any number of steps, and a run of events leads from net
-    // to net. A step is a turn, in which any datagram of the other node comes or none, or a call of
-    // an owner. Each packet that comes must be fresh.
+    // to net. A step is a turn with any timers, in which any datagram of the other node comes or
+    // none, or a call of an owner. Each packet that comes must be fresh.
     ensures stay { SystemsStay client_host client_upon client_turns }
     // The law of the network holds for each such net: what a connection of either node, past or
     // present, has read is a prefix of what its peer has written.
@@ -42,10 +43,10 @@ pub fn law_nodes()
 /// The law of a turn over a link, of two such nodes. A datagram of the other node comes, or a
 /// datagram without a packet, or nothing.
 pub fn law_queues<L: Link>()
-    // A turn that a client runs over any link is a step of the system, if the turn leaves an empty
-    // outbox. The link was asked to send exactly what the step posts, each datagram once and in
-    // order. Between the datagrams the link was asked once to receive, and may wait exactly if the
-    // turn may.
+    // A turn that a client runs over any link, with any timers, is a step of the system, if the
+    // turn leaves an empty outbox. The link was asked to send exactly what the step posts, each
+    // datagram once and in order. Between the datagrams the link was asked once to receive, and may
+    // wait exactly if the turn may.
     ensures steps { (old new : L) → TurnsAreSteps (Asks (L.asked old) (L.asked new)) }
     // Take a queue with room, at whose front the network put a datagram of the other node. That
     // datagram came. The queue has what it held behind that datagram, and then exactly what the
@@ -75,7 +76,7 @@ pub fn law_hello()
 
 /// The law of nodes whose owners serve between the halves of a turn.
 pub fn law_halves<L: Link>()
-    // Each half of a node's turn is a run, as is a whole turn.
+    // Each half of a node's turn is a run, as is a whole turn with any timers.
     ensures turns { NodeTurnsAreRuns }
     // There is a net behind two nodes after any number of whole turns, halves and owners' calls,
     // while each packet that comes is fresh.

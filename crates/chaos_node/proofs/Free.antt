@@ -5,12 +5,15 @@ use Rattle.chaos_packet.specs.Packet.{PacketView}
 use Rattle.chaos_host.specs.NextInUse.{IsFirstInUse}
 use Rattle.chaos_host.specs.Slot.{is_used_in, is_used_at}
 use Rattle.chaos_host.specs.Tick.{tick_slot}
-use Rattle.chaos_host.specs.View.{HostView, id_at, id_in}
+use Rattle.chaos_conn.specs.View.{ConnView}
+use Rattle.chaos_host.specs.View.{HostView, conn_at, conn_in, id_at, id_in}
 use Rattle.chaos_host.specs.declared.slot.Slot.{Slot}
 use Rattle.chaos_link.specs.declared.link.Link.{Ghosts}
 use Rattle.chaos_node.specs.InTurn.{TurnDoes}
 use Rattle.chaos_node.specs.Phase.{Effect, and_then, effect_singly_of, no_effect_on, over_slots}
 use Rattle.chaos_node.specs.Slots.{tick_at}
+use Rattle.chaos_node.specs.Timer.{holds_in, resends_at, resends_in, tick_by}
+use Rattle.chaos_node.specs.declared.timer.RetransmitTimer.{RetransmitTimer}
 use Rattle.chaos_node.specs.declared.turn.Turn.{Turn}
 use Rattle.chaos_node.proofs.InTurn.{then_does}
 
@@ -43,9 +46,36 @@ tick_free h place now (Some slot) free = rw free refl
 pub ticks_pass : (now : ℕ) → PassesFree (tick_at now)
 ticks_pass now place h free = tick_free h place now (slice_get h.slots place) free
 
+-- no connection is in a free slot
+pub conn_free : (place : ℕ) (o : Option Slot) → is_used_in o ≡ false → conn_in place o ≡ None
+conn_free place None free = refl
+conn_free place (Some slot) free = rw free refl
+
+held_free : (now : ℕ) (t : Option RetransmitTimer) (c : Option (ℕ × ConnView)) → c ≡ None → holds_in now t c ≡ false
+held_free now None c none = refl
+held_free now (Some t) c none = rw none refl
+
+resends_none : (now : ℕ) (t : Option RetransmitTimer) (c : Option (ℕ × ConnView)) → c ≡ None → resends_in now t c ≡ false
+resends_none now None c none = refl
+resends_none now (Some t) c none = rw none refl
+
+-- a free slot sends nothing again
+pub resends_free : (ts : List RetransmitTimer) (now : ℕ) (h : HostView) (place : ℕ) → is_used_at h.slots place ≡ false
+    → resends_at ts now h place ≡ false
+resends_free ts now h place free =
+    resends_none now (slice_get ts place) (conn_at h place) (conn_free place (slice_get h.slots place) free)
+
+-- no timer holds back what isn't there, and a free slot has nothing due
+pub timed_pass : (ts : List RetransmitTimer) (now : ℕ) → PassesFree (tick_by ts now)
+timed_pass ts now place h free =
+    ap (λ (held : Bool). if held then no_effect_on h else tick_at now place h)
+    (held_free now (slice_get ts place) (conn_at h place) (conn_free place (slice_get h.slots place) free))
+    ∙ ticks_pass now place h free
+
 -- ---- walks
 
-next_number : (place : ℕ) → suc place ≡ place + 1
+-- the next number, as an addition
+pub next_number : (place : ℕ) → suc place ≡ place + 1
 next_number place = omega arith
 
 then_nothing : (first : Effect) (next : HostView → Effect) → next first.host ≡ no_effect_on first.host

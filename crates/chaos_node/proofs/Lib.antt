@@ -1,7 +1,9 @@
+pub mod Any
 pub mod Free
 pub mod Halves
 pub mod InTurn
 pub mod Loaded
+pub mod Looked
 pub mod Phase
 pub mod Queue
 pub mod Readback

@@ -11,3 +11,5 @@ pub mod Turn
 pub mod Clock
 pub mod Moments
 pub mod Passing
+pub mod RoundTrip
+pub mod Timer

@@ -1,4 +1,5 @@
--- One turn over a link. One of a host that serves nothing: what came is taken, then each slot is ticked.
+-- One turn over a link. One of a host that serves nothing: what came is taken, then each slot is ticked whose timer doesn't
+-- hold the tick back.
 use Rattle.std.specs.Prelude.{◌≡◌, ℕ, Bool, true, if◌then◌else◌, List, ◌∷◌, length, Option, Some, IfSome, is_some}
 use Rattle.chaos_packet.specs.Packet.{PacketView}
 use Rattle.chaos_host.specs.View.{HostView}
@@ -10,13 +11,14 @@ use Rattle.chaos_node.specs.Arrive.{Arrival, arrival_from, arrive_at_client, tol
 use Rattle.chaos_node.specs.End.{TellsWork}
 use Rattle.chaos_node.specs.Link.{datagrams_of, has_packets, read_all, sent_by, sent_into, turn_asks}
 use Rattle.chaos_node.specs.Phase.{Effect, and_then, over_slots}
-use Rattle.chaos_node.specs.Slots.{tick_at}
 use Rattle.chaos_node.specs.Station.{Station}
+use Rattle.chaos_node.specs.Timer.{tick_by}
 use Rattle.chaos_node.specs.declared.end.TurnEnd.{TurnEnd}
+use Rattle.chaos_node.specs.declared.timer.RetransmitTimer.{RetransmitTimer}
 
--- what a turn of a client makes of what came
-abbrev pub client_phases : Arrival → ℕ → HostView → Effect
-client_phases came now h = and_then (arrive_at_client came now h) (over_slots (tick_at now) (length h.slots))
+-- what a turn of a client with these timers makes of what came
+abbrev pub client_phases : List RetransmitTimer → Arrival → ℕ → HostView → Effect
+client_phases timers came now h = and_then (arrive_at_client came now h) (over_slots (tick_by timers now) (length h.slots))
 
 -- ---- the link and the outbox in a turn
 
@@ -43,10 +45,10 @@ module _ {N : Type 0} where
     pub read : read_all (sent_by carriage (before.outbox.packets ∷ lots)) ≡ packets_of (before.outbox.packets ∷ lots)
     pub work : TellsWork (has_work before.outbox.packets came lots) result
 
--- A whole turn of a client at its link, by this carriage; what became of the last packet that came was told.
-pub record RunsClientTurn (asked : List Ask → Type 0) (may_wait : Bool) (carriage : Carriage) (now : ℕ)
+-- A whole turn of a client with these timers at its link, by this carriage; what became of the last packet that came was told.
+pub record RunsClientTurn (timers : List RetransmitTimer) (asked : List Ask → Type 0) (may_wait : Bool) (carriage : Carriage) (now : ℕ)
     (before after : Station HostView) (result : TurnEnd) (answer : Option HostDelivered) : Type 0 where
   pub came : Arrival
-  pub host : after.node ≡ (client_phases came now before.node).host
+  pub host : after.node ≡ (client_phases timers came now before.node).host
   pub told : answer ≡ told_at_client came now before.node
-  pub link : GoesOver asked may_wait carriage came (client_phases came now before.node).lots before after result
+  pub link : GoesOver asked may_wait carriage came (client_phases timers came now before.node).lots before after result

@@ -105,7 +105,7 @@ impl Node {
         // anything is received, what came is delivered before the ticks, and what these put out
         // goes out. What became of the last packet that came in this turn is left in the node, and
         // none where none came. The link is asked as in a client's turn.
-        ensures turn { RunsClientTurn (Asks (L.asked link.old) (L.asked link.new)) may_wait
+        ensures turn { RunsClientTurn [] (Asks (L.asked link.old) (L.asked link.new)) may_wait
             self.old.carriage now (station self.old.host (L.queue link.old) self.old.out)
             (station self.new.host (L.queue link.new) self.new.out) result
             (answer_to self.new.told) }
@@ -188,7 +188,7 @@ impl Node {
             carriage,
             now,
         };
-        let ticked = turn.tick_slots();
+        let ticked = turn.tick_slots(&[]);
         let sent = any_of(waited, ticked, false);
         end_of(self.failures, turn.link.failures(), self.worked, sent)
     }

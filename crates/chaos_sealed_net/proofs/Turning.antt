@@ -1,6 +1,6 @@
 -- What a turn of a node makes of the sealed machine: each packet of a datagram that was sealed is heard, and each slot is
--- ticked.
-use Rattle.std.proofs.Common.{◌≡◌, ℕ, zero, suc, ◌+◌, ◌<◌, ◌≤◌, List, [], ◌∷◌, ◌++◌, length, Option, Some, None, Ok, Err, refl, sym, ◌∙◌, subst, inl, inr, ◌⊎◌, arith}
+-- ticked whose timer doesn't hold the tick back.
+use Rattle.std.proofs.Common.{◌≡◌, ℕ, zero, suc, ◌+◌, ◌<◌, ◌≤◌, Bool, true, false, if◌then◌else◌, List, [], ◌∷◌, ◌++◌, length, Option, Some, None, Ok, Err, refl, sym, ◌∙◌, subst, inl, inr, ◌⊎◌, arith}
 use Rattle.std.specs.Prelude.{slice_get}
 use Rattle.std.specs.List.{AllByRecursion}
 use Rattle.chaos_packet.specs.Packet.{PacketView}
@@ -18,7 +18,9 @@ use Rattle.chaos_node.specs.Arrive.{Arrival, arrive_at_client, deliver_effect}
 use Rattle.chaos_node.specs.Halves.{tick_all}
 use Rattle.chaos_node.specs.Phase.{Effect, and_then, no_effect_on, over_packets, over_slots}
 use Rattle.chaos_node.specs.Slots.{tick_at}
+use Rattle.chaos_node.specs.Timer.{holds_at, tick_by}
 use Rattle.chaos_node.specs.Turn.{client_phases}
+use Rattle.chaos_node.specs.declared.timer.RetransmitTimer.{RetransmitTimer}
 use Rattle.chaos_sealed_net.specs.SealedNet.{Datagram, SealedNet, MayHear, hears, seal_window, sealed_after}
 use Rattle.chaos_sealed_net.specs.SealedNet.SealedEvent.{Does, Hears}
 use Rattle.chaos_sealed_net.specs.SealedNodes.{AreNear}
@@ -78,12 +80,20 @@ module _ (x : Side) (most : ℕ) where
     },
   )
 
-  pub ticks_sealed : (now size : ℕ) (s : SealedNet) → Holding s → s.newest x ≤ most
-      → MakesSealed s x most (over_slots (tick_at now) size (s.net x).host)
-  ticks_sealed now zero s h own = none_sealed s h own
-  ticks_sealed now (suc size) s h own =
-      then_sealed s (over_slots (tick_at now) size (s.net x).host) (tick_at now size) (ticks_sealed now size s h own)
-      (λ r k newest. tick_sealed now size r k newest)
+  -- a timer may hold the tick back
+  timed_tick_sealed : (timers : List RetransmitTimer) (now place : ℕ) (s : SealedNet) → Holding s → s.newest x ≤ most
+      → MakesSealed s x most (tick_by timers now place (s.net x).host)
+  timed_tick_sealed timers now place s h own =
+      elim (holds_at timers now place (s.net x).host)
+      as (λ (held : Bool). MakesSealed s x most (if held then no_effect_on (s.net x).host else tick_at now place (s.net x).host))
+      [ true ↦ none_sealed s h own | false ↦ tick_sealed now place s h own ]
+
+  pub ticks_sealed : (timers : List RetransmitTimer) (now size : ℕ) (s : SealedNet) → Holding s → s.newest x ≤ most
+      → MakesSealed s x most (over_slots (tick_by timers now) size (s.net x).host)
+  ticks_sealed timers now zero s h own = none_sealed s h own
+  ticks_sealed timers now (suc size) s h own =
+      then_sealed s (over_slots (tick_by timers now) size (s.net x).host) (tick_by timers now size)
+      (ticks_sealed timers now size s h own) (λ r k newest. timed_tick_sealed timers now size r k newest)
 
   -- ---- packets
 
@@ -165,14 +175,14 @@ module _ (x : Side) (most : ℕ) where
       → ComeSealed s now ks came → node_turns came start now before after lots
       → MakesSealed s x most (record { host = after; lots = lots })
   turn_sealed s ks came start now before after lots is h own c (inl turn) =
-      subst (MakesSealed s x most) (λ j. record { host = sym turn.0 j; lots = sym turn.1 j })
-      (subst (λ g. MakesSealed s x most (client_phases came now g)) is
-      (then_sealed s (arrive_at_client came now (s.net x).host) (over_slots (tick_at now) (length (s.net x).host.slots))
-      (arrived_sealed s now ks came h own c)
-      (λ r k newest. ticks_sealed now (length (s.net x).host.slots) r k newest)))
+      subst (MakesSealed s x most) (λ j. record { host = sym turn.1 j; lots = sym turn.2 j })
+      (subst (λ g. MakesSealed s x most (client_phases turn.0 came now g)) is
+      (then_sealed s (arrive_at_client came now (s.net x).host)
+      (over_slots (tick_by turn.0 now) (length (s.net x).host.slots)) (arrived_sealed s now ks came h own c)
+      (λ r k newest. ticks_sealed turn.0 now (length (s.net x).host.slots) r k newest)))
   turn_sealed s ks came start now before after lots is h own c (inr (inl half)) =
       subst (MakesSealed s x most) (λ j. record { host = sym half.0 j; lots = sym half.1 j })
       (subst (λ g. MakesSealed s x most (arrive_at_client came now g)) is (arrived_sealed s now ks came h own c))
   turn_sealed s ks came start now before after lots is h own c (inr (inr half)) =
       subst (MakesSealed s x most) (λ j. record { host = sym half.1 j; lots = sym half.2 j })
-      (subst (λ g. MakesSealed s x most (tick_all now g)) is (ticks_sealed now (length (s.net x).host.slots) s h own))
+      (subst (λ g. MakesSealed s x most (tick_all now g)) is (ticks_sealed [] now (length (s.net x).host.slots) s h own))

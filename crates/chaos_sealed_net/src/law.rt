@@ -25,10 +25,10 @@ pub fn law_sealed_hello()
 /// The law of two nodes over sealed links. A datagram may be lost, late, repeated or out of order.
 pub fn law_sealed_nodes()
     // There is a net behind two new nodes, and after any number of whole turns, halves and owners'
-    // calls a run leads to a net behind the nodes. A datagram of the other node comes only under a
-    // counter that the other node's seal gave to the datagram. The counter must be fewer than 256
-    // below the greatest that came, and each packet must be near. The seals may give any counters
-    // that rise.
+    // calls a run leads to a net behind the nodes. A whole turn may have any timers. A datagram of
+    // the other node comes only under a counter that the other node's seal gave to the datagram.
+    // The counter must be fewer than 256 below the greatest that came, and each packet must be
+    // near. The seals may give any counters that rise.
     ensures { SealedNodesStay }
 {}
 

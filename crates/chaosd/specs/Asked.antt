@@ -13,8 +13,8 @@ use Rattle.file_client.specs.declared.route.Route.{Route}
 abbrev pub asked_host : ℕ → PeersView → ℕ
 asked_host to peers = if is_some (socket_of to peers) then to else NOBODY
 
--- from the host of an `ask` to the host that it asks, for the line's contact, by its carriage; what is kept is sent again after
--- the time that the line gives
+-- From the host of an `ask` to the host that it asks, for the line's contact, by its carriage. The time to send again is the
+-- line's, or the least time where the line gives none.
 pub record IsAskedBy (line : Ask) (ends : AskEnds) (route : Route) : Type 0 where
   pub me : route.me ≡ ends.address
   pub to : route.to ≡ asked_host ends.to ends.peers

@@ -1,6 +1,7 @@
 //! The run of `ask`.
 ghost use Rattle.std.specs.Prelude.{◌<◌, ◌≡◌, unwrap_or};
 ghost use Rattle.chaos_link.specs.Peers.{socket_of};
+ghost use Rattle.chaosd_call.specs.Config.{interval_by};
 ghost use Rattle.chaosd_call.specs.Patience.{patience_by};
 ghost use Rattle.chaosd.specs.Asked.{IsAskedBy, asked_host};
 
@@ -10,11 +11,11 @@ use crate::terminals::Terminals;
 use chaos_chudp::ChudpLink;
 use chaos_conn::USUAL_WINDOW;
 use chaos_link::{Link, Peer, Peers, UdpLink};
-use chaos_node::{Epoch, NodeFault};
+use chaos_node::{Epoch, Interval, NodeFault, RetransmitTimer};
 use chaosd_ask::{HandleName, NOBODY, Notes, ScriptEnd, ask_script};
 use chaosd_call::{
     CallWords, ExitStatus, Key, OpenEnds, PeerSocket, Waiting, WaitingSocket, config_of,
-    contact_of, has_input, heard_alone, hops_of, key_of_line, open_named, patience_of,
+    contact_of, has_input, heard_alone, hops_of, interval_of, key_of_line, open_named, patience_of,
     report_unopened, sealed_to,
 };
 use chaosd_io::RunFault;
@@ -45,6 +46,8 @@ fn asked_host<R: Eprint>(rt: &R, to: u16, peers: &Peers) -> u16
 #[derive(Drop)]
 struct Asked {
     route: Route,
+    /// When kept packets are sent again.
+    interval: Interval,
     patience: Patience,
     is_strict: bool,
     socket: SocketAddrV4,
@@ -105,9 +108,10 @@ fn ask_through<'a, R: AllocGlobal + Clock + Eprint, L: Link, I: Read, W: Write>(
     let mut notes = Notes::new();
     let end = match host_of(rt, asked) {
         Ok((mut host, timing)) => {
+            let mut timers = [RetransmitTimer::new(asked.interval)];
             let mut client = Client {
                 host: &mut host,
-                driver: ClockDriver::new(rt, link, timing),
+                driver: ClockDriver::new(rt, link, timing, &mut timers),
             };
             ask_script::<PollTerminal, ClockDriver<'_, '_, R, L>, TerminalScript<'a, R, I>, W>(
                 &mut client,
@@ -165,8 +169,10 @@ fn strict_status(status: ExitStatus, was_error: bool) -> ExitStatus {
 /// reported.
 fn asked_of<R: Eprint>(rt: &R, line: &Ask<'_>, ends: &AskEnds) -> Asked
     // The route leads from the own end to the host that is asked, for the line's contact, by its
-    // carriage. What is kept is sent again after the time that the line gives.
+    // carriage. Its time to send again is the line's, or the least time.
     ensures route { IsAskedBy line.now ends.now result.route }
+    // Kept packets are sent again by the line's time, or by a time that is measured.
+    ensures interval { result.interval ≡ interval_by line.now.retransmit }
     // A reply is waited for as long as the line says.
     ensures patience { result.patience ≡ patience_by line.now.timeout }
     // The run ends by its first error exactly where the line is strict.
@@ -188,6 +194,7 @@ fn asked_of<R: Eprint>(rt: &R, line: &Ask<'_>, ends: &AskEnds) -> Asked
             config: config_of(USUAL_WINDOW, line.retransmit),
             carriage: line.framing.carriage(),
         },
+        interval: interval_of(line.retransmit),
         patience: patience_of(line.timeout),
         is_strict: line.is_strict,
         socket: ends.socket,

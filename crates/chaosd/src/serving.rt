@@ -1,7 +1,7 @@
 //! The run of `serve`.
 ghost use Rattle.std.specs.Prelude.{◌<◌, ◌≡◌, ◌≤◌, IfOk, length};
 ghost use Rattle.chaos_link.specs.declared.limits.TheConstants.{MAX_PEERS};
-ghost use Rattle.chaosd_call.specs.Config.{config_by};
+ghost use Rattle.chaosd_call.specs.Config.{config_by, interval_by};
 ghost use Rattle.chaosd_line.specs.Framings.{carriage_of};
 ghost use Rattle.chaosd.specs.ServedPeers.{form_by, hops_in};
 
@@ -16,8 +16,8 @@ use chaos_link::{Link, MAX_PEERS, Peer, Peers, Reports, UdpLink};
 use chaos_node::{ClockMoments, Epoch};
 use chaos_sealed_socket::SealedSocket;
 use chaosd_call::{
-    ExitStatus, HostKey, TableFile, config_of, epoch_of, hops_of, hosts_in, report_table,
-    report_unopened, seals_of, table_of_line,
+    ExitStatus, HostKey, TableFile, config_of, epoch_of, hops_of, hosts_in, interval_of,
+    report_table, report_unopened, seals_of, table_of_line,
 };
 use chaosd_hosts::{DatagramForm, FollowedHosts, Host};
 use chaosd_io::RunFault;
@@ -106,7 +106,7 @@ fn serve_store<R: AllocGlobal + Clock + Eprint + Files<File = File>, L: Link + R
 fn options_of(line: &Serve<'_>, ends: &ServeEnds, epoch: Epoch) -> ServeOptions
     // The host has the address of the end.
     ensures me { result.me ≡ ends.now.address }
-    // The connections have the line's windows and its time to send again.
+    // The connections have the line's windows and its time to send again, or the least time.
     ensures config { result.config ≡ config_by line.now.window line.now.retransmit }
     // The service makes as many turns as the line says.
     ensures turns { result.turns ≡ line.now.turns }
@@ -114,6 +114,8 @@ fn options_of(line: &Serve<'_>, ends: &ServeEnds, epoch: Epoch) -> ServeOptions
     ensures carriage { result.carriage ≡ carriage_of line.now.framing }
     // As many indices of each slot are passed over as the run says.
     ensures passed { result.passed ≡ epoch.passed }
+    // Kept packets are sent again by the line's time, or by a time that is measured.
+    ensures interval { result.interval ≡ interval_by line.now.retransmit }
 {
     ServeOptions {
         me: ends.address,
@@ -121,6 +123,7 @@ fn options_of(line: &Serve<'_>, ends: &ServeEnds, epoch: Epoch) -> ServeOptions
         turns: u64::from(line.turns),
         carriage: line.framing.carriage(),
         passed: epoch.passed(),
+        interval: interval_of(line.retransmit),
     }
 }
 

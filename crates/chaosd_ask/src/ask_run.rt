@@ -16,7 +16,7 @@ use crate::notes::Notes;
 use crate::script::ask_script;
 use chaos_conn::ConnConfig;
 use chaos_link::{Carriage, Link};
-use chaos_node::{Epoch, ReadableClock};
+use chaos_node::{Epoch, Interval, ReadableClock, RetransmitTimer};
 use chaosd_io::RunFault;
 use file_client::{Client, ClientHost, ClockDriver, Contact, Route, Timing};
 use std::alloc::Global;
@@ -82,7 +82,8 @@ pub fn run_ask<C: ReadableClock, R: Read, W: Write, L: Link>(
     };
     let passed = timing.epoch.passed();
     let mut host = ClientHost::new(alloc, &route, passed)?;
-    let driver = ClockDriver::new(clock, link, timing);
+    let mut timers = [RetransmitTimer::new(Interval::Measured)];
+    let driver = ClockDriver::new(clock, link, timing, &mut timers);
     let mut client = Client {
         host: &mut host,
         driver,

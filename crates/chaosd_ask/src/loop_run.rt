@@ -19,7 +19,7 @@ use chaos_conn::ConnConfig;
 use chaos_file::MemStore;
 use chaos_host::Host;
 use chaos_link::{Carriage, LINK_ROOM, Link};
-use chaos_node::{LastPacket, NodeFault, TURN_ROOM, TurnEnd, client_turn};
+use chaos_node::{Interval, LastPacket, NodeFault, TURN_ROOM, TurnEnd, client_turn};
 use chaos_packet::{Outbox, PktNum};
 use chaosd_io::RunFault;
 use file_client::{Client, ClientHost, Contact, Driver, Patience, Route};
@@ -81,7 +81,7 @@ impl<A: Link, B: Link> LoopDriver<'_, '_, '_, A, B> {
 }
 
 impl<A: Link, B: Link> Driver for LoopDriver<'_, '_, '_, A, B> {
-    ghost use Rattle.std.specs.Prelude.{◌∷◌, ◌+◌, ◌*◌, ◌⊎◌, [], Some, min};
+    ghost use Rattle.std.specs.Prelude.{◌∷◌, ◌+◌, ◌*◌, ◌⊎◌, [], None, Some, min};
     ghost use Rattle.chaos_packet.specs.Count.{Rose, max_count};
     ghost use Rattle.chaosd_ask.specs.declared.limits.TheConstants.{LOOP_TURN};
     ghost use Rattle.chaosd_ask.specs.Conversation.{loop_pace};
@@ -93,6 +93,8 @@ impl<A: Link, B: Link> Driver for LoopDriver<'_, '_, '_, A, B> {
     ghost pace = { λ _. loop_pace };
 
     ghost stands = { λ driver. Some (min (driver.turns * LOOP_TURN) max_count) };
+
+    ghost timed = { λ _. None };
 
     ghost later = { λ moment. min (moment + LOOP_TURN) max_count };
 
@@ -121,6 +123,14 @@ impl<A: Link, B: Link> Driver for LoopDriver<'_, '_, '_, A, B> {
 
     fn wait(&self) -> u64 {
         u64::MAX
+    }
+
+    fn resent(&self) -> u64 {
+        0
+    }
+
+    fn is_crowded(&self) -> bool {
+        true
     }
 
     fn patience(&self) -> Patience {
@@ -243,7 +253,7 @@ pub fn run_loop<R: Read, W: Write, A: Link, B: Link>(
 {
     let config = ConnConfig::usual();
     let mut far_end = FarEnd {
-        server: Server::new(alloc, LOOP_SERVER, config, carriage)?,
+        server: Server::new(alloc, LOOP_SERVER, config, carriage, Interval::Measured)?,
         store: MemStore::new(alloc),
     };
     let route = Route {

@@ -1,5 +1,7 @@
 -- What it means that the status of a line which calls a server is Done.
-use Rattle.std.specs.Prelude.{◌≡◌, ℕ, List}
+use Rattle.std.specs.Prelude.{◌≡◌, ◌∷◌, ℕ, List, []}
+use Rattle.chaos_node.specs.Timer.{new_timer}
+use Rattle.chaos_node.specs.declared.timer.Interval.TheVariants.{Measured}
 use Rattle.file_copy.specs.declared.talk.Talk as t
 use Rattle.chaosd_line.specs.declared.ends.Ends.{Ends}
 use Rattle.chaosd_line.specs.declared.framing.Framing.{Framing}
@@ -16,10 +18,10 @@ use Rattle.chaosd_call.specs.Patience.{patience_by}
 use Rattle.chaosd_call.specs.Routes.{IsRouteOf}
 
 module _ {C L : Type 0} (talk : t.Ghosts (Client (ClockDriver C L))) where
-  -- A client that began with this engine and this timing did the whole job, and nothing else.
+  -- A client that began with this engine, this timing and a timer that measures did the whole job, and nothing else.
   abbrev pub DoneBy : CallerView → Timing → List ℕ → Job → Type 0
   DoneBy engine timing user job = (client now : Client (ClockDriver C L)) × (client.host.now.caller ≡ engine)
-      × (client.driver.timing ≡ timing) × JobDone talk.talked talk.connects user job client now
+      × (client.driver.timing ≡ timing) × (client.driver.timers.now ≡ new_timer Measured ∷ []) × JobDone talk.talked talk.connects user job client now
 
   -- A client did the whole job between these ends, and nothing else. The client began with a new engine, which calls as the line
   -- says, and waited for each reply as long as the line says.

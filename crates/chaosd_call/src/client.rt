@@ -1,16 +1,14 @@
 //! How a client calls: its numbers, its times, and how long it waits.
-ghost use Rattle.std.specs.Prelude.{◌≡◌, ◌<◌, IfErr, IfOk, true};
+ghost use Rattle.std.specs.Prelude.{◌≡◌, IfErr, IfOk, true};
 ghost use Rattle.chaosd_call.specs.Epochs.{IsEpochBy};
 ghost use Rattle.chaosd_call.specs.Patience.{patience_by};
 ghost use Rattle.chaosd_call.specs.Routes.{IsRouteOf};
 ghost use Rattle.chaosd_line.specs.Values.{is_contact};
 
 use crate::config::config_of;
-use chaos_conn::ConnConfig;
-use chaos_link::Link;
 use chaos_node::{Epoch, NodeFault, ReadableClock};
 use chaosd_line::{Calling, Ends};
-use file_client::{ClockDriver, Contact, Patience, Route, Timing, retransmit_for, round_trip};
+use file_client::{Contact, Patience, Route, Timing};
 use std::fs::{File, Files};
 use std::io;
 use std::io::Read;
@@ -85,30 +83,17 @@ pub fn timing_of<R: ReadableClock + Files<File = File>>(
     })
 }
 
-/// From whom to whom a line calls. The time after which what is kept is sent again goes by the
-/// round trip, which is measured first.
-pub fn route_of<R: AllocGlobal + ReadableClock, L: Link>(
-    rt: &R,
-    link: &mut L,
-    calling: &Calling<'_>,
-    ends: &Ends,
-    timing: Timing,
-) -> Result<Route, NodeFault>
+/// From whom to whom a line calls. When what is kept is sent again is measured.
+pub fn route_of(calling: &Calling<'_>, ends: &Ends) -> Route
     // The route leads from the line's host to its server, for its contact, by its carriage and
-    // windows. What is kept is sent again after the time that goes by a round trip.
-    ensures { IfOk result (IsRouteOf calling.now ends.now) }
+    // windows. The time to send again is the least one, since the timer of the driver decides.
+    ensures { IsRouteOf calling.now ends.now result }
 {
-    let usual = Route {
+    Route {
         me: ends.address,
         to: ends.server.address,
         contact: contact_of(calling.contact),
-        config: ConnConfig::with_window(calling.window),
+        config: config_of(calling.window, None),
         carriage: calling.framing.carriage(),
-    };
-    let mut driver = ClockDriver::new(rt, link, timing);
-    let trip = round_trip(rt.alloc(), &mut driver, &usual, timing.epoch.passed())?;
-    Ok(Route {
-        config: config_of(calling.window, retransmit_for(trip)),
-        ..usual
-    })
+    }
 }

@@ -74,6 +74,17 @@ fn report_bound<R: Eprint>(rt: &R, copying: &Copying<'_>, room: Option<usize>) {
     }
 }
 
+/// Reports, where the user asked for more, how often something was lost on the way.
+fn report_losses<R: Eprint>(rt: &R, copying: &Copying<'_>, losses: u64) {
+    if !copying.is_verbose || losses == 0 {
+        return;
+    }
+    let plural = if losses == 1 { "" } else { "es" };
+    let _ = eprintln!(rt;
+        "chaosd: {losses} loss{plural} on the way, after which packets were sent again"
+    );
+}
+
 impl<R> Work<R> for Get<'_>
 where
     R: AllocGlobal + ReadableClock + Eprint + Files<File = File> + Input + Print,
@@ -111,6 +122,7 @@ where
         law_runs::<T, Disk<'_, R>, ProgressLine<'_, '_, R>>();
         let worst = run_copies(&mut gets, &mut words, self.paths.as_slice());
         gets.session.end();
+        report_losses(rt, copying, gets.session.talk.line().losses);
         report_bound(rt, copying, gets.session.progress.least_room());
         ExitStatus::of_files(worst)
     }
@@ -161,6 +173,7 @@ where
         law_runs::<T, Disk<'_, R>, ProgressLine<'_, '_, R>>();
         let worst = run_copies(&mut puts, &mut words, self.files.as_slice());
         puts.session.end();
+        report_losses(rt, copying, puts.session.talk.line().losses);
         report_bound(rt, copying, puts.session.progress.least_room());
         ExitStatus::of_files(worst)
     }

@@ -14,7 +14,7 @@ use crate::run_ends::report_unbegun;
 use crate::waiting::Waiting;
 use chaos_chudp::ChudpLink;
 use chaos_link::{Link, Peer};
-use chaos_node::ReadableClock;
+use chaos_node::{Interval, ReadableClock, RetransmitTimer};
 use chaosd_io::RunFault;
 use chaosd_line::{Calling, Ends, Framing};
 use file_client::{Client, ClientHost, ClockDriver, Timing};
@@ -119,7 +119,7 @@ where
     }
 }
 
-/// Does the work over a link, by a call whose times go by the round trip, which is measured first.
+/// Does the work over a link, by a new client.
 fn work_over<R, L: Link, W: Work<R>>(
     rt: &R,
     link: &mut L,
@@ -140,10 +140,7 @@ where
         Ok(timing) => timing,
         Err(fault) => return report_unbegun(rt, RunFault::from(fault)),
     };
-    let route = match route_of(rt, link, calling, ends, timing) {
-        Ok(route) => route,
-        Err(fault) => return report_unbegun(rt, RunFault::from(fault)),
-    };
+    let route = route_of(calling, ends);
     match ClientHost::new(rt.alloc(), &route, timing.epoch.passed()) {
         Ok(host) => run_over(rt, link, timing, host, caller, work),
         Err(fault) => report_unbegun(rt, RunFault::from(fault)),
@@ -159,13 +156,15 @@ fn run_over<'c, R: ReadableClock, L: Link, W: Work<R>>(
     caller: &Caller<'_, '_, R>,
     work: &W,
 ) -> ExitStatus
-    // If the status is Done, then a client with this engine and this timing did the whole job.
+    // If the status is Done, then a client with this engine, this timing and a timer that measures
+    // did the whole job.
     ensures { result ≡ ExitStatus.Done →
         DoneBy ⟦<Client<'static, ClockDriver<'static, 'static, R, L>> as Talk>⟧
         host.caller timing (W.calling work.now).login.now (W.job work.now) }
 {
     let mut host = host;
-    let driver = ClockDriver::new(clock, link, timing);
+    let mut timers = [RetransmitTimer::new(Interval::Measured)];
+    let driver = ClockDriver::new(clock, link, timing, &mut timers);
     let client = Client {
         host: &mut host,
         driver,

@@ -27,7 +27,7 @@ mod table_file;
 mod waiting;
 
 pub use client::{contact_of, epoch_of, patience_of};
-pub use config::config_of;
+pub use config::{config_of, interval_of};
 pub use dialogs::{ChudpClient, OwnClient, run_work};
 pub use exit_status::ExitStatus;
 pub use hops::hops_of;

@@ -55,7 +55,7 @@ abbrev pub contact_option : Rule
 contact_option = with_default (codes "contact") (codes "FILE")
 
 abbrev pub retransmit_option : Rule
-retransmit_option = with_default (codes "retransmit") (codes "500")
+retransmit_option = optional (codes "retransmit")
 
 -- -q, -v and -t
 abbrev pub report_rules : List Rule → List Rule

@@ -81,7 +81,7 @@ serve = field (λ s. s.turns) (given turns_of (codes "turns"))
     & field (λ s. s.framing) framing_at
     & field (λ s. option_map (λ t. t.now) s.key) serve_key_at
     & field (λ s. s.window) (given window_of (codes "window"))
-    & field (λ s. s.retransmit) (given retransmit_of (codes "retransmit"))
+    & field (λ s. s.retransmit) (given_if retransmit_of (codes "retransmit"))
     & field (λ s. s.is_quiet) (given flag_of (codes "quiet"))
     & field (λ s. s.log) (given log_of (codes "log"))
     & field (λ s. s.is_timed) (given flag_of (codes "log-time"))
@@ -96,7 +96,7 @@ ask = field (λ a. a.framing) framing_at
     & field (λ a. option_map (λ t. t.now) a.key) key_at
     & field (λ a. a.contact.now) (given (word_of word.Contact) (codes "contact"))
     & field (λ a. a.timeout) (given_if seconds_of (codes "timeout"))
-    & field (λ a. a.retransmit) (given retransmit_of (codes "retransmit"))
+    & field (λ a. a.retransmit) (given_if retransmit_of (codes "retransmit"))
     & field (λ a. a.hears_anybody) (given flag_of (codes "any-source"))
     & field (λ a. a.is_strict) (given flag_of (codes "strict"))
     & field (λ a. a.is_quiet) (given flag_of (codes "quiet"))

@@ -95,7 +95,7 @@ Wait up to SECONDS for each reply, 1 to 3600
 /// Help of `--retransmit`.
 pub(crate) const RETRANSMIT: &str = "\
 Retransmit unacknowledged packets after MS
-milliseconds, 20 to 60000";
+milliseconds, 20 to 60000 [default: measured]";
 
 /// Help of `--any-source`.
 pub(crate) const ANY_SOURCE: &str = "\

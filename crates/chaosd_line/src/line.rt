@@ -67,8 +67,9 @@ pub struct Serve<'a> {
     pub key: Option<&'a str>,
     /// The packets that each of the two windows of its connections has, 1 to 64.
     pub window: u16,
-    /// The milliseconds after which its connections retransmit packets, 20 to 60,000.
-    pub retransmit: u64,
+    /// The milliseconds after which its connections retransmit packets, 20 to 60,000, where they are
+    /// given.
+    pub retransmit: Option<u64>,
     /// Whether only errors are logged, whatever the log's level.
     pub is_quiet: bool,
     /// How much is logged.
@@ -100,8 +101,9 @@ pub struct Ask<'a> {
     pub contact: &'a str,
     /// The seconds that each reply is waited for, 1 to 3600, where they are given.
     pub timeout: Option<u16>,
-    /// The milliseconds after which its connection retransmits packets, 20 to 60,000.
-    pub retransmit: u64,
+    /// The milliseconds after which its connection retransmits packets, 20 to 60,000, where they are
+    /// given.
+    pub retransmit: Option<u64>,
     /// Whether datagrams from any UDP address are taken, and not from its peers' alone.
     pub hears_anybody: bool,
     /// Whether the first reply that is an error ends the run.

@@ -9,7 +9,7 @@ use crate::calls::{delete_of, rename_of, timeout_of};
 use crate::copies::{get_of, put_of};
 use crate::ends::ServePlace;
 use crate::followed::first_followed;
-use crate::form::{value, word};
+use crate::form::{optional_value, value, word};
 use crate::framings::framing_of;
 use crate::keys::{key_in, serve_key_in};
 use crate::line::{Ask, Line, Serve, Show};
@@ -47,7 +47,7 @@ fn serve_of<'a>(matches: &ArgMatches<'a>) -> Result<Serve<'a>, BadValue<'a>>
     let framing = framing_of(matches)?;
     let key = serve_key_in(matches)?;
     let window = value(matches, "window", &WINDOW)? as u16;
-    let retransmit = value(matches, "retransmit", &RETRANSMIT)?;
+    let retransmit = optional_value(matches, "retransmit", &RETRANSMIT)?;
     let is_quiet = value(matches, "quiet", &Flag)?;
     let log = value(matches, "log", &Level)?;
     let is_timed = value(matches, "log-time", &Flag)?;
@@ -86,7 +86,7 @@ fn ask_of<'a>(matches: &ArgMatches<'a>) -> Result<Ask<'a>, BadValue<'a>>
         key: key_in(matches)?,
         contact: word(matches, "contact", Word::Contact)?,
         timeout: timeout_of(matches)?,
-        retransmit: value(matches, "retransmit", &RETRANSMIT)?,
+        retransmit: optional_value(matches, "retransmit", &RETRANSMIT)?,
         hears_anybody: value(matches, "any-source", &Flag)?,
         is_strict: value(matches, "strict", &Flag)?,
         is_quiet: value(matches, "quiet", &Flag)?,

@@ -108,8 +108,8 @@ pub fn parse_line<'a, S: AsStr>(alloc: Global, words: &'a [S]) -> Result<Line<'a
     // or the line is `ask`.
     // `serve` has its turns, its folder, how much it logs, whether it logs the time, whether it
     // hears only peers, and whether no file changes. `serve` and `ask` have the milliseconds after
-    // which packets are retransmitted (20 to 60000). `serve` and what calls a server have the
-    // window (1 to 64).
+    // which packets are retransmitted (20 to 60000) if they are given. `serve` and what calls a
+    // server have the window (1 to 64).
     // `ask` and what calls a server have the contact name (1 to 64 printable characters of ASCII
     // without a space), another host than their own, the seconds of a timeout (1 to 3600) if they
     // are given, and whether anybody is heard. What calls a server has the user's name.

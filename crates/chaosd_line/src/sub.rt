@@ -75,7 +75,7 @@ const TIMEOUT: Argument<'static> = Argument(
 
 const RETRANSMIT: Argument<'static> = Argument(
     "retransmit",
-    Arity::Default("MS", "500"),
+    Arity::Optional("MS"),
     help::RETRANSMIT,
 );
 

@@ -8,6 +8,7 @@
 #![tactic(auto)]
 
 mod change;
+mod counted;
 mod heard;
 mod journal;
 mod level;

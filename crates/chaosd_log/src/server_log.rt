@@ -2,6 +2,7 @@
 ghost use Rattle.std.specs.Prelude.{None};
 
 use crate::change::{Asked, ChangeText, Printed, topic_of};
+use crate::counted::Counted;
 use crate::journal::Journal;
 use crate::level::Topic;
 use crate::peer_sources::SourceReport;
@@ -37,18 +38,26 @@ impl<R: Clock + Eprint> Log for Journal<'_, R> {
         }
     }
 
-    fn ended(&mut self, peer: End, login: Option<&[u8]>, commands: u64, ending: Ending) {
+    fn ended(
+        &mut self,
+        peer: End,
+        login: Option<&[u8]>,
+        commands: u64,
+        resent: u64,
+        ending: Ending,
+    ) {
         let End { address, index } = peer;
         if !self.is_peer(address) {
             return;
         }
         let name = Printed(login.unwrap_or(b"nobody"));
-        let plural = if commands == 1 { "" } else { "s" };
+        let commands = Counted(commands, "command");
+        let resent = Counted(resent, "retransmission");
         let why = words_of(ending);
         let _ = self.log(
             Topic::Connection,
             &format_args!(
-                "connection {index:06o} of host {address:o} ends: {name}, {commands} command{plural}, {why}"
+                "connection {index:06o} of host {address:o} ends: {name}, {commands}, {resent}, {why}"
             ),
         );
     }

@@ -10,41 +10,46 @@ use Rattle.chaos_node.specs.Link.{turn_asks}
 use Rattle.chaos_node.specs.Station.{Station, station}
 use Rattle.chaos_node.specs.Turn.{RunsClientTurn, client_phases}
 use Rattle.chaos_node.specs.declared.end.TurnEnd.{TurnEnd}
+use Rattle.chaos_node.specs.declared.timer.RetransmitTimer.{RetransmitTimer}
 use Rattle.file_client.specs.Caller.{CallerView, HangsUpBy, HangsUp, Stays, TurnsAt}
 use Rattle.file_client.specs.Pace.{Pace}
 use Rattle.file_client.specs.Talk.{Talker, Exchanges, SendsFarewell}
-use Rattle.file_client.specs.Turn.{TakesTurn}
+use Rattle.file_client.specs.Turn.{TakesTimedTurn, TakesTurn}
 
 -- just what the turn asked was asked of its link
 pub asks_of : (Asked : List Ask → Type 0) (Waits : Bool → Type 0) (now : ℕ) (before after : Option QueueView)
     (c d : CallerView) → TurnsAt Asked Waits now before after c d
     → (asks : List Ask) × Asked asks × TurnsAt (λ more. more ≡ asks) Waits now before after c d
-asks_of Asked Waits now before after c d (is, (may_wait, waits, end, told, runs)) = (
-  turn_asks c.carriage may_wait c.out.packets (client_phases runs.came now c.host).lots,
+asks_of Asked Waits now before after c d (is, (timers, (may_wait, waits, end, told, runs))) = (
+  turn_asks c.carriage may_wait c.out.packets (client_phases timers runs.came now c.host).lots,
   runs.link.asks,
   (
     is,
     (
-      may_wait,
-      waits,
-      end,
-      told,
-      record {
-        came = runs.came;
-        host = runs.host;
-        told = runs.told;
-        link = record { queue = runs.link.queue; asks = refl; read = runs.link.read; work = runs.link.work };
-      },
+      timers,
+      (
+        may_wait,
+        waits,
+        end,
+        told,
+        record {
+          came = runs.came;
+          host = runs.host;
+          told = runs.told;
+          link = record { queue = runs.link.queue; asks = refl; read = runs.link.read; work = runs.link.work };
+        },
+      ),
     ),
   ),
 )
 
 module _ (A B : List Ask → Type 0) (f : (asks : List Ask) → A asks → B asks) where
   -- where all that may have been asked of the one may have been asked of the other
-  pub runs_by : (may_wait : Bool) (carriage : Carriage) (now : ℕ) (before after : Station HostView) (end : TurnEnd)
-      (told : Option HostDelivered) → RunsClientTurn A may_wait carriage now before after end told
-      → RunsClientTurn B may_wait carriage now before after end told
-  runs_by may_wait carriage now before after end told runs = record {
+  pub runs_by : (timers : List RetransmitTimer) (may_wait : Bool) (carriage : Carriage) (now : ℕ)
+      (before after : Station HostView) (end : TurnEnd) (told : Option HostDelivered)
+      → RunsClientTurn timers A may_wait carriage now before after end told
+      → RunsClientTurn timers B may_wait carriage now before after end told
+  runs_by timers may_wait carriage now before after end told runs = record {
     came = runs.came;
     host = runs.host;
     told = runs.told;
@@ -53,8 +58,8 @@ module _ (A B : List Ask → Type 0) (f : (asks : List Ask) → A asks → B ask
 
   pub turns_by : (Waits : Bool → Type 0) (now : ℕ) (before after : Option QueueView) (c d : CallerView)
       → TurnsAt A Waits now before after c d → TurnsAt B Waits now before after c d
-  turns_by Waits now before after c d (is, (may_wait, waits, end, told, runs)) =
-      (is, (may_wait, waits, end, told, runs_by may_wait c.carriage now _ _ end told runs))
+  turns_by Waits now before after c d (is, (timers, (may_wait, waits, end, told, runs))) =
+      (is, (timers, (may_wait, waits, end, told, runs_by timers may_wait c.carriage now _ _ end told runs)))
 
   stays_by : (before after : Option QueueView) (c d : CallerView) → Stays A before after c d → Stays B before after c d
   stays_by before after c d (is, queue, none) = (is, queue, f [] none)
@@ -90,18 +95,20 @@ module _ {T S : Type 0} (t : T) (link : T → S) (old new : AskedSince S Ask) wh
       → Asks (λ (first : T). old (link first)) (λ (first : T). new (link first)) more
   asks_through more asks = record { goes = λ first before was. asks.goes (link first) before was }
 
-  pub takes_through : (Waits : Bool → Type 0) (may_wait : Bool) (carriage : Carriage) (now : ℕ) (host left : HostView)
-      (before after : Option QueueView) (waiting out : OutboxView) (end : TurnEnd) (told : Option HostDelivered)
-      → Waits may_wait
-      → RunsClientTurn (Asks old new) may_wait carriage now (station host before waiting) (station left after out) end
-      told
+  -- a turn over the link, with these timers, is one of what has it
+  pub takes_through : (timers : List RetransmitTimer) (Waits : Bool → Type 0) (carriage : Carriage) (now : ℕ)
+      (host left : HostView) (before after : Option QueueView) (waiting out : OutboxView)
+      → TakesTimedTurn timers (Asks old new) Waits carriage now host left before after waiting out
       → TakesTurn (Asks (λ (first : T). old (link first)) (λ (first : T). new (link first))) Waits carriage now host left
       before after waiting out
-  takes_through Waits may_wait carriage now host left before after waiting out end told waits runs = (
-    may_wait,
-    waits,
-    end,
-    told,
-    runs_by (Asks old new) (Asks (λ (first : T). old (link first)) (λ (first : T). new (link first))) asks_through
-        may_wait carriage now (station host before waiting) (station left after out) end told runs,
+  takes_through timers Waits carriage now host left before after waiting out (may_wait, waits, end, told, runs) = (
+    timers,
+    (
+      may_wait,
+      waits,
+      end,
+      told,
+      runs_by (Asks old new) (Asks (λ (first : T). old (link first)) (λ (first : T). new (link first))) asks_through
+          timers may_wait carriage now (station host before waiting) (station left after out) end told runs,
+    ),
   )

@@ -5,7 +5,8 @@ use Rattle.file_client.specs.Caller.{CallerView}
 use Rattle.file_copy.specs.declared.no_reply.NoReply.{NoReply}
 
 -- The host with its connection, the moment of its last turn or of its last look at the clock, how many turns it began, since
--- when it waits for a reply, why none came, and what became of the packet that came last, where that wasn't noted yet.
+-- when it waits for a reply, why none came, what became of the packet that came last, where that wasn't noted yet, and how many
+-- packets showed that a packet was lost.
 pub record ClientHostView : Type 0 where
   pub caller : CallerView
   pub now : ℕ
@@ -13,3 +14,4 @@ pub record ClientHostView : Type 0 where
   pub since : ℕ
   pub missing : NoReply
   pub last_arrival : Option HostDelivered
+  pub losses : ℕ

@@ -5,7 +5,7 @@ pub mod Missing
 pub mod Fault
 pub mod Pace
 pub mod Patience
-pub mod RoundTrip
 pub mod Turn
 pub mod Caller
 pub mod Talk
+pub mod Line

@@ -1,5 +1,5 @@
 -- What a client goes by.
-use Rattle.std.specs.Prelude.{◌≡◌, ℕ, Bool, Option, Some, None, Result, Ok}
+use Rattle.std.specs.Prelude.{◌≡◌, ℕ, Bool, true, Option, Some, None, Result, Ok}
 use Rattle.chaos_node.specs.Clock.{IsMoment, number_of}
 use Rattle.chaos_node.specs.declared.clock.Epoch.{Epoch}
 use Rattle.file_client.specs.Patience.{first_wait_of, usual_patience}
@@ -29,7 +29,7 @@ clock_pace Shows timing = record {
   starts = number_of timing.epoch;
   wait = first_wait_of timing.patience;
   patience = timing.patience;
-  Waits = λ allowed waits. waits ≡ allowed;
+  Waits = λ allowed waits. waits ≡ true → allowed ≡ true;
 }
 
 -- Who counts turns tells the moment that it stands at.

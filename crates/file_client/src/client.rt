@@ -6,6 +6,7 @@ ghost use Rattle.file_copy.specs.Talk.{Turned, counted, taken};
 ghost use Rattle.file_client.specs.Calls.{is_over};
 ghost use Rattle.file_client.specs.Caller.{Connects, HangsUp, Receives, Sends, TurnsAt, TurnsOrStops, asked_again};
 ghost use Rattle.file_client.specs.Fault.{IsTurnFault};
+ghost use Rattle.file_client.specs.Line.{line_of};
 ghost use Rattle.file_client.specs.Patience.{millis_waited};
 ghost use Rattle.file_client.specs.Talk.{Exchanges, SendsFarewell, Talks, SaysAt, silence, talker, says_none_at};
 
@@ -15,7 +16,7 @@ use crate::limits::END_TURNS;
 use chaos_file::Reply;
 use chaos_node::NodeFault;
 use chaos_packet::Opcode;
-use file_copy::{MOST_TURNS, NoReply, Talk};
+use file_copy::{Line, MOST_TURNS, NoReply, Talk};
 
 /// A client of a FILE server, with the driver by which it takes its turns. It says which steps it
 /// took: which commands its connection wrote, which replies it read, in which turns, and what its
@@ -227,6 +228,7 @@ impl<D: Driver> Talk for Client<'_, D> {
           is_over = is_over client.host.now.caller.host client.host.now.caller.id;
           patience = millis_waited (D.pace (D.time client.driver)).patience;
           failures = D.failures client.driver;
+          line = line_of (D.timed client.driver) client.host.now.caller.host client.host.now.losses;
         } };
 
     /// It hung up, and asked its server for its contact, at a moment that its clock may show.
@@ -335,6 +337,11 @@ impl<D: Driver> Talk for Client<'_, D> {
         self.driver.patience().millis()
     }
 
+    fn line(&self) -> Line {
+        self.host
+            .line(self.driver.resent(), self.driver.is_crowded())
+    }
+
     fn is_over(&self) -> bool
         // A client is over exactly where its connection has ended or there is none.
         ensures { result ≡ is_over self.now.host.now.caller.host self.now.host.now.caller.id }
@@ -401,9 +408,10 @@ impl<D: Driver> Talk for Client<'_, D> {
         // The connection and the driver don't change.
         ensures same { (self.new.host.now.caller ≡ self.old.host.now.caller)
             × (self.new.driver ≡ self.old.driver) }
-        // The moment and the count of turns stay.
+        // The moment, the count of turns and the count of losses stay.
         ensures still { (self.new.host.now.now ≡ self.old.host.now.now)
-            × (self.new.host.now.count ≡ self.old.host.now.count) }
+            × (self.new.host.now.count ≡ self.old.host.now.count)
+            × (self.new.host.now.losses ≡ self.old.host.now.losses) }
     {
         self.host.no_reply()
     }

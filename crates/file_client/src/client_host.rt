@@ -3,6 +3,8 @@ ghost use Rattle.std.specs.Prelude.{◌≡◌, ◌<◌, ◌⊎◌, ◌↔◌, []
 ghost use Rattle.file_copy.specs.Talk.{Turned, counted, taken};
 ghost use Rattle.file_client.specs.Calls.{is_over};
 ghost use Rattle.file_client.specs.Caller.{Receives, ReceivesBehind, Sends, SendsOnce, all_read, asked, asked_again, caller_by, closed, doubled, is_asking, is_late};
+ghost use Rattle.chaos_host.specs.View.{conn_at};
+ghost use Rattle.file_client.specs.Line.{has_gap_in, line_by, losses_after, shows_loss, window_in};
 ghost use Rattle.file_client.specs.Missing.{noted, untried};
 
 use crate::calls::{is_over, take_reply};
@@ -10,13 +12,13 @@ use crate::contact::Contact;
 use crate::driver::Driver;
 use crate::reply_timer::ReplyTimer;
 use crate::route::Route;
-use chaos_conn::State;
+use chaos_conn::{Disposition, State};
 use chaos_file::Reply;
-use chaos_host::{ConnId, Host};
+use chaos_host::{ConnId, Host, HostDisposition};
 use chaos_link::Carriage;
 use chaos_node::{LastPacket, NodeFault, TURN_ROOM, pass_indices};
 use chaos_packet::{Opcode, Outbox, PktNum};
-use file_copy::NoReply;
+use file_copy::{Line, NoReply};
 use std::alloc::Global;
 use std::marker::Model;
 
@@ -47,6 +49,8 @@ pub struct ClientHost {
     reply_timer: ReplyTimer,
     /// The last packet that came in a turn which wasn't noted yet.
     pub(crate) last_arrival: LastPacket,
+    /// How many packets showed that a packet of the server's was lost.
+    losses: u64,
 }
 
 impl Model for ClientHost {
@@ -74,6 +78,7 @@ impl Model for ClientHost {
           since = c.reply_timer.since;
           missing = c.reply_timer.missing;
           last_arrival = answer_to c.last_arrival;
+          losses = c.losses;
         } };
 
     ghost invariant = { λ c. c.out.cap ≡ TURN_ROOM };
@@ -119,6 +124,7 @@ impl ClientHost {
             unanswered: 0,
             reply_timer: ReplyTimer::new(),
             last_arrival: LastPacket::default(),
+            losses: 0,
         })
     }
 
@@ -209,8 +215,9 @@ impl ClientHost {
         ensures reason { result ≡ self.old.missing }
         // The connection doesn't change.
         ensures same { self.new.caller ≡ self.old.caller }
-        // The moment and the count of turns stay.
-        ensures still { (self.new.now ≡ self.old.now) × (self.new.count ≡ self.old.count) }
+        // The moment, the count of turns and the count of losses stay.
+        ensures still { (self.new.now ≡ self.old.now) × (self.new.count ≡ self.old.count)
+            × (self.new.losses ≡ self.old.losses) }
     {
         self.reply_timer.no_reply()
     }
@@ -275,14 +282,64 @@ impl ClientHost {
         }
     }
 
+    /// Whether the packet that came last shows that a packet was lost: it came before, or it is ahead
+    /// of one that is missing.
+    fn shows_loss(&self) -> bool
+        ensures { result ≡ shows_loss self.entry.now.last_arrival
+            (has_gap_in (conn_at self.entry.now.caller.host 0)) }
+    {
+        match self.last_arrival.became {
+            Some(HostDisposition::At(_, Disposition::Duplicate)) => true,
+            Some(HostDisposition::At(_, Disposition::Took)) => self.has_gap(),
+            _ => false,
+        }
+    }
+
+    /// Whether an item of the connection is held, and an item before it is missing.
+    fn has_gap(&self) -> bool
+        ensures { result ≡ has_gap_in (conn_at self.entry.now.caller.host 0) }
+    {
+        match self.host.conn_at(0) {
+            Some((_, conn)) => conn.has_gap(),
+            None => false,
+        }
+    }
+
+    /// How many items the server's window allows. It is 0 where there is no connection.
+    fn window(&self) -> u16
+        ensures { result ≡ window_in (conn_at self.entry.now.caller.host 0) }
+    {
+        match self.host.conn_at(0) {
+            Some((_, conn)) => conn.window(),
+            None => 0,
+        }
+    }
+
+    /// What is known of the line to the server, where kept items were sent again so often, and packets
+    /// wait in a queue or don't.
+    pub(crate) fn line(&self, resent: u64, is_crowded: bool) -> Line
+        ensures { result
+            ≡ line_by resent is_crowded self.entry.now.caller.host self.entry.now.losses }
+    {
+        Line {
+            window: usize::from(self.window()),
+            losses: resent.saturating_add(self.losses),
+            is_crowded,
+        }
+    }
+
     /// Notes what became of the packet that came last in a turn, once.
     pub(crate) fn note(&mut self)
         ensures { self.new
             ≡ record self.old {
               missing = noted self.old.since self.old.now self.old.last_arrival self.old.missing;
               last_arrival = None;
+              losses = losses_after self.old.last_arrival self.old.caller.host self.old.losses;
             } }
     {
+        if self.shows_loss() {
+            self.losses = self.losses.saturating_add(1);
+        }
         self.reply_timer.note(self.now, &self.last_arrival);
         self.last_arrival.became = None;
     }

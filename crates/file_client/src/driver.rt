@@ -2,7 +2,9 @@
 ghost use Rattle.std.specs.Prelude.{◌≡◌, ◌≤◌, ℕ, List, [], Err, Option, IfErr, IfOk, OnOk, option_map};
 ghost use Rattle.std.specs.Borrow.{GName};
 ghost use Rattle.chaos_link.specs.Link.{Ask, Asks, QueueView};
+ghost use Rattle.chaos_node.specs.declared.timer.RetransmitTimer.{RetransmitTimer};
 ghost use Rattle.file_client.specs.Fault.{IsTurnFault};
+ghost use Rattle.file_client.specs.Line.{crowded_by, resent_by};
 ghost use Rattle.file_client.specs.Pace.{Pace, StoodAt};
 ghost use Rattle.file_client.specs.Turn.{TakesTurn};
 
@@ -29,6 +31,9 @@ pub trait Driver: Drop {
 
     /// The moment behind a turn, of one that counts them.
     ghost later: { ℕ → ℕ };
+
+    /// The timer of the client's connection, where there is one.
+    ghost timed: { Self → Option RetransmitTimer };
 
     /// That there may be a moment at which the clock can't be read.
     ghost stops: { Time → Type 0 };
@@ -74,6 +79,16 @@ pub trait Driver: Drop {
     fn wait(&self) -> u64
         // The first OPN is waited for as long as the pace says.
         ensures { result ≡ (pace (time self.now)).wait };
+
+    /// How often kept items of the client's connection were sent again.
+    fn resent(&self) -> u64
+        // The driver's timer counted so many times.
+        ensures { result ≡ resent_by (timed self.now) };
+
+    /// Whether packets wait in a queue of the line.
+    fn is_crowded(&self) -> bool
+        // The round trip of the driver's timer shows that. Where none was measured, packets may wait.
+        ensures { result ≡ crowded_by (timed self.now) };
 
     /// How long a reply is waited for.
     fn patience(&self) -> Patience

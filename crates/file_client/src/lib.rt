@@ -4,9 +4,8 @@
 //! No sockets and no clock of its own, and no allocation but the host's. `client` is the client,
 //! which is a talk with a FILE server, and `client_host` its host; `calls` is what is done with the
 //! host's connection. `driver` is what drives a client, and `clock_driver` the driver by a clock,
-//! over a link. `contact` is the name that a server is asked for. `patience` says how long a reply
-//! is waited for, and `reply_timer` why none came. `trip` measures how long a packet and its answer
-//! take.
+//! over a link. `line` is what a timer shows of the line. `contact` is the name that a server is
+//! asked for. `patience` says how long a reply is waited for, and `reply_timer` why none came.
 #![tactic(auto)]
 
 mod calls;
@@ -16,11 +15,11 @@ mod clock_driver;
 mod contact;
 mod driver;
 mod limits;
+mod line;
 mod patience;
 mod reply_timer;
 mod route;
 mod timing;
-mod trip;
 
 pub use client::Client;
 pub use client_host::ClientHost;
@@ -31,4 +30,3 @@ pub use limits::law_limits;
 pub use patience::Patience;
 pub use route::Route;
 pub use timing::Timing;
-pub use trip::{RoundTrip, retransmit_for, round_trip};

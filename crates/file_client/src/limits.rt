@@ -1,6 +1,6 @@
 //! The times that a client keeps to.
 ghost use Rattle.std.specs.Prelude.{◌≡◌};
-ghost use Rattle.file_client.specs.declared.limits.TheConstants.{COMMAND_TURNS, END_TURNS, LEAST_RETRANSMIT, MOST_RETRANSMIT, OPEN_MILLIS, OPEN_SHARE, TRAIN, TRAINS_OF_A_WINDOW, TRIP_MILLIS};
+ghost use Rattle.file_client.specs.declared.limits.TheConstants.{COMMAND_TURNS, END_TURNS, OPEN_MILLIS, OPEN_SHARE};
 
 /// For how many milliseconds a client waits at most for the OPN of its first connection, before it
 /// asks for another connection. Its server may still hold this address and index for a client that
@@ -19,22 +19,6 @@ pub const COMMAND_TURNS: u32 = 1_000;
 /// The turns that an EOF behind the last command waits to be read.
 pub const END_TURNS: u32 = 100;
 
-/// How many requests are sent at once to measure a round trip.
-pub const TRAIN: u32 = 16;
-
-/// So many such trains are as many packets as the greatest window has.
-pub const TRAINS_OF_A_WINDOW: u64 = 4;
-
-/// For how many milliseconds the first answer to them is waited for.
-pub const TRIP_MILLIS: u64 = 1_000;
-
-/// A client that measured the round trip sends again what it keeps after so many milliseconds at
-/// least.
-pub const LEAST_RETRANSMIT: u64 = 20;
-
-/// It sends again what it keeps after so many milliseconds at most.
-pub const MOST_RETRANSMIT: u64 = 500;
-
 /// The times and numbers of a client as numerals.
 pub fn law_limits()
     // The first OPN is waited for 2,000 milliseconds at most.
@@ -45,13 +29,4 @@ pub fn law_limits()
     ensures command { COMMAND_TURNS ≡ 1000 }
     // An EOF behind the last command waits for 100 turns.
     ensures end { END_TURNS ≡ 100 }
-    // A round trip is measured by 16 requests.
-    ensures train { TRAIN ≡ 16 }
-    // A train is a fourth of the greatest window.
-    ensures trains { TRAINS_OF_A_WINDOW ≡ 4 }
-    // The first answer to a train is waited for 1,000 milliseconds.
-    ensures trip { TRIP_MILLIS ≡ 1000 }
-    // What is kept is sent again after 20 to 500 milliseconds.
-    ensures least { LEAST_RETRANSMIT ≡ 20 }
-    ensures greatest { MOST_RETRANSMIT ≡ 500 }
 {}

@@ -14,3 +14,4 @@ pub mod Begun
 pub mod LocalFiles
 pub mod Ended
 pub mod Quiet
+pub mod Paced

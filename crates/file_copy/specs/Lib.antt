@@ -7,4 +7,4 @@ pub mod Text
 pub mod Memory
 pub mod Local
 pub mod Said
-pub mod Flight
+pub mod Pace

@@ -3,6 +3,7 @@ use Rattle.std.specs.Prelude.{◌≡◌, ◌≤◌, ◌⊎◌, ◌||◌, ℕ, �
 use Rattle.chaos_packet.specs.Count.{max_count}
 use Rattle.file_copy.specs.declared.limits.TheConstants.{REPLY_TURNS, REPLY_MILLIS, MOST_TURNS}
 use Rattle.file_copy.specs.Copy.{upto}
+use Rattle.file_copy.specs.declared.pace.Line.{Line}
 
 pub record Talked : Type 0 where
   pub sent : List (List ℕ)
@@ -91,6 +92,8 @@ pub record Course : Type 0 where
   pub failures : ℕ
   -- the milliseconds for which a reply is waited for, where the talk has a patience of its own
   pub patience : Option ℕ
+  -- what is known of the line
+  pub line : Line
 
 -- how far a talk has come that is over too where nobody is there to reply
 abbrev pub over_where : Bool → Course → Course

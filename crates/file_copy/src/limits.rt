@@ -17,6 +17,15 @@ pub const MAX_FIRST: u32 = 99_900_000;
 /// The handle of the file that is copied.
 pub const HANDLE: &[u8] = b"F";
 
+/// How many commands of a file are in flight at first.
+pub const FIRST_FLIGHT: usize = 8;
+
+/// How many commands of a file are in flight after losses at least.
+pub const LEAST_FLIGHT: usize = 2;
+
+/// How many commands of a file are in flight at most: as many as the greatest window allows.
+pub const MOST_FLIGHT: usize = 64;
+
 /// The numbers as numerals.
 pub fn law_limits()
     // A reply is waited for in 1,000 turns and 10 seconds at least, where the talk has no patience

@@ -10,10 +10,13 @@ ghost use Rattle.chaos_file.specs.Session.{new_session};
 ghost use Rattle.chaos_file.specs.Step.{file_step};
 ghost use Rattle.file_copy.specs.Copy.{Does};
 ghost use Rattle.file_copy.specs.Memory.{Answered, StepsOrStays, nothing_more, talked_of};
+ghost use Rattle.file_copy.specs.declared.limits.TheConstants.{MOST_FLIGHT};
 ghost use Rattle.file_copy.specs.Talk.{Talked, counted, silence, with_received, with_sent};
 
 use crate::bytes::{copied, fill};
+use crate::limits::MOST_FLIGHT;
 use crate::no_reply::NoReply;
+use crate::pace::Line;
 use crate::talk::Talk;
 use chaos_file::{MemStore, Reply, ReplyParts, Said, Session, parse_command, write_reply};
 use chaos_node::NodeFault;
@@ -122,6 +125,7 @@ impl Talk for MemTalk {
       failures
           = 0;
       patience = None;
+      line = record { window = MOST_FLIGHT; losses = 0; is_crowded = false };
     } };
 
     /// Its server is there, and has ended nothing.
@@ -170,6 +174,15 @@ impl Talk for MemTalk {
 
     fn patience(&self) -> Option<u64> {
         None
+    }
+
+    /// Nothing is lost.
+    fn line(&self) -> Line {
+        Line {
+            window: MOST_FLIGHT,
+            losses: 0,
+            is_crowded: false,
+        }
     }
 
     fn is_over(&self) -> bool {

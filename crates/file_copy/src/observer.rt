@@ -13,8 +13,8 @@ pub trait Observer {
     /// So many bytes of the file were copied.
     fn reach(&mut self, bytes: usize);
 
-    /// The file has more commands than there was room for at first. So many were sent before the
-    /// first reply came, and no more are ever without a reply.
+    /// The file has more commands than the server's window allows. At most so many are ever without
+    /// a reply.
     fn bound(&mut self, commands: usize);
 
     /// A reply came.

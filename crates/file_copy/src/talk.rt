@@ -6,6 +6,7 @@ ghost use Rattle.chaos_node.specs.declared.fault.NodeFault.{NodeFault};
 ghost use Rattle.file_copy.specs.declared.no_reply.NoReply.{NoReply};
 
 use crate::no_reply::NoReply;
+use crate::pace::Line;
 use chaos_file::Reply;
 use chaos_node::NodeFault;
 
@@ -23,8 +24,8 @@ pub trait Talk {
     ghost ready: { Self → Option (List (List ℕ)) };
 
     /// How far it has come: the turns that were made, where the talk counts them, the moment of the
-    /// last, whether no more replies come than are there, the failures that were counted, and its
-    /// patience.
+    /// last, whether no more replies come than are there, the failures that were counted, its
+    /// patience, and what is known of the line.
     ghost course: { Self → Course };
 
     /// Why no reply came, as far as the talk knows.
@@ -92,6 +93,12 @@ pub trait Talk {
     fn patience(&self) -> Option<u64>
         // It is the talk's own patience.
         ensures { result ≡ (course self.now).patience };
+
+    /// What is known of the line to the server, by which a copy says how many commands are in
+    /// flight.
+    fn line(&self) -> Line
+        // It is what the talk knows of its line.
+        ensures { result ≡ (course self.now).line };
 
     /// Whether no more replies come than are there.
     fn is_over(&self) -> bool

@@ -1,12 +1,11 @@
 //! Commands that are sent before the replies to those before them came.
-ghost use Rattle.std.specs.Prelude.{◌≡◌, ◌≤◌, ◌<◌, ◌+◌, ◌-◌, ◌++◌, ◌∷◌, [], ℕ, true, List, Some, length, Decides, IfOk, IfErr, OnErr, OnOk, IfSome, MatchOption};
+ghost use Rattle.std.specs.Prelude.{◌≡◌, ◌≤◌, ◌<◌, ◌+◌, ◌-◌, ◌++◌, ◌∷◌, [], ℕ, max, true, List, Some, length, Decides, IfOk, IfErr, OnErr, OnOk, IfSome, MatchOption};
 ghost use Rattle.std.specs.Fmt.{decimal};
 ghost use Rattle.file_copy.specs.Copy.{upto};
 ghost use Rattle.file_copy.specs.Talk.{Since, Received, SentOrNot, InVain, IsLate, Unheard, received_in, sent_if, taken, over_where};
 ghost use Rattle.file_copy.specs.Row.{RequestFits, request_command, row_command};
-ghost use Rattle.file_copy.specs.Flight.{bound_of, limit_after};
+ghost use Rattle.file_copy.specs.Pace.{first_pace, looked, most_of};
 ghost use Rattle.file_copy.specs.declared.limits.TheConstants.{MAX_FIRST};
-ghost use Rattle.file_copy.specs.declared.window.TheConstants.{NO_LIMIT};
 ghost use Rattle.chaos_file.specs.declared.limits.TheConstants.{MAX_NAME, MAX_HANDLE};
 ghost use Rattle.chaos_file.specs.Names.{is_name};
 ghost use Rattle.chaos_file.specs.Reply.{reading_of};
@@ -18,14 +17,12 @@ use crate::bytes::copied;
 use crate::end::CopyEnd;
 use crate::limits::{MOST_TURNS, REPLY_MILLIS, REPLY_TURNS};
 use crate::observer::Observer;
+use crate::pace::Pace;
 use crate::row::{Row, spell_at};
 use crate::said::{said_to, write_wanted};
 use crate::talk::Talk;
 use chaos_file::{Command, CommandBytes, Reply, Said};
 use chaos_node::NodeFault;
-
-/// As many commands without a reply as there is room for.
-const NO_LIMIT: usize = usize::MAX;
 
 /// How far a row of commands has come.
 #[derive(Drop)]
@@ -34,8 +31,8 @@ pub struct Flight {
     pub sent: usize,
     /// So many replies were received: the next is that to the command at this place.
     pub received: usize,
-    /// At most so many commands are without a reply: as many as there was room for at first.
-    limit: usize,
+    /// How many commands may be in flight.
+    pub pace: Pace,
     /// The place where each command is spelled.
     command: CommandBytes,
 }
@@ -45,12 +42,12 @@ impl Flight {
     pub fn new() -> Self
         ensures sent { result.sent ≡ 0 }
         ensures received { result.received ≡ 0 }
-        ensures limit { result.limit ≡ NO_LIMIT }
+        ensures pace { result.pace ≡ first_pace }
     {
         Flight {
             sent: 0,
             received: 0,
-            limit: NO_LIMIT,
+            pace: Pace::new(),
             command: CommandBytes::new(),
         }
     }
@@ -60,8 +57,10 @@ impl Flight {
         requires { self.now.sent ≤ count }
         ensures from { self.now.sent ≤ result }
         ensures within { result ≤ count }
+        // No more are in flight than the pace says, but for those that are in flight already.
+        ensures few { result ≤ max self.now.sent (self.now.received + most_of self.now.pace) }
     {
-        let most = self.received.saturating_add(self.limit);
+        let most = self.received.saturating_add(self.pace.most());
         if most <= self.sent {
             self.sent
         } else if most < count {
@@ -70,40 +69,18 @@ impl Flight {
             count
         }
     }
-
-    /// So many were sent in all. What there was room for at first is the limit from then on.
-    fn note(&mut self, sent: usize)
-        ensures sent { self.new.sent ≡ sent }
-        ensures received { self.new.received ≡ self.old.received }
-        ensures limit { self.new.limit ≡ limit_after self.old sent }
-    {
-        self.sent = sent;
-        if self.limit == NO_LIMIT && sent > self.received {
-            self.limit = sent - self.received;
-        }
-    }
-
-    /// How many of so many commands there was room for at first, where there are more.
-    pub fn bound(&self, count: usize) -> Option<usize>
-        ensures { result ≡ bound_of self.now count }
-    {
-        if self.limit < count {
-            Some(self.limit)
-        } else {
-            None
-        }
-    }
 }
 
-/// Reports to the observer how many of a row's commands there was room for at first, where the row
+/// Reports to the observer how many of a row's commands the server's window allows, where the row
 /// has more.
 pub fn report_bound<O: Observer>(flight: &Flight, row: &Row<'_>, observer: &mut O) {
-    if let Some(commands) = flight.bound(row.count) {
+    if let Some(commands) = flight.pace.bound(row.count) {
         observer.bound(commands);
     }
 }
 
-/// Sends more of the commands, as many as may be without a reply and as there is room for.
+/// Looks at the line, and sends more of the commands, as many as may be in flight and as there is room
+/// for.
 fn send_on<T: Talk>(talk: &mut T, row: &Row<'_>, flight: &mut Flight)
     requires sent { flight.old.sent ≤ row.now.count }
     requires first { row.now.first ≤ MAX_FIRST + 9000 }
@@ -111,6 +88,10 @@ fn send_on<T: Talk>(talk: &mut T, row: &Row<'_>, flight: &mut Flight)
     requires fits { RequestFits (command_view row.now.command) }
     ensures within { flight.new.sent ≤ row.now.count }
     ensures place { flight.new.received ≡ flight.old.received }
+    ensures pace { flight.new.pace
+        ≡ looked (T.course talk.old).line flight.old.sent flight.old.received flight.old.pace }
+    ensures few { flight.new.sent
+        ≤ max flight.old.sent (flight.old.received + most_of flight.new.pace) }
     ensures talk { (start : T) (replies : List (List ℕ)) →
         Since (T.talked start) (T.talked talk.old) (upto (row_command row.now) flight.old.sent)
         replies
@@ -121,9 +102,10 @@ fn send_on<T: Talk>(talk: &mut T, row: &Row<'_>, flight: &mut Flight)
     ensures unfailed { (T.course talk.new).failures ≡ (T.course talk.old).failures }
     ensures patient { (T.course talk.new).patience ≡ (T.course talk.old).patience }
 {
+    let (sent, received) = (flight.sent, flight.received);
+    flight.pace.look(talk.line(), sent, received);
     let most = flight.most_sent(row.count);
-    let sent = send_more(talk, row, flight.sent, most, &mut flight.command);
-    flight.note(sent);
+    flight.sent = send_more(talk, row, sent, most, &mut flight.command);
 }
 
 /// Sends more of the commands, up to so many and as there is room for, and answers how many were
@@ -140,7 +122,7 @@ fn send_more<T: Talk>(
     requires first { row.now.first ≤ MAX_FIRST + 9000 }
     requires count { row.now.count ≤ 9000 }
     requires fits { RequestFits (command_view row.now.command) }
-    ensures within { result ≤ row.now.count }
+    ensures within { result ≤ most }
     ensures talk { (start : T) (replies : List (List ℕ)) →
         Since (T.talked start) (T.talked talk.old) (upto (row_command row.now) sent) replies
         → Since (T.talked start) (T.talked talk.new) (upto (row_command row.now) result) replies }
@@ -187,10 +169,9 @@ fn is_late<T: Talk>(talk: &T, turns: u32, since: u64) -> bool
 /// The next reply, waited for as long as the talk's patience; where the talk has none, for at least
 /// 1,000 turns and 10 seconds. It is left in the caller's place, and it is said whether one came.
 ///
-/// The first commands are sent at once, as many as there is room for, and from then on never more
-/// are without a reply, even where the server reported that it has read some of them. A command
-/// reports which replies were read: so what comes to the server last leaves it room for the next
-/// reply.
+/// As many commands are in flight as the pace says, and never more than the server's window allows,
+/// even where the server reported that it has read some of them. A command reports which replies
+/// were read: so what comes to the server last leaves it room for the next reply.
 pub fn next_reply<T: Talk, O: Observer>(
     talk: &mut T,
     row: &Row<'_>,
@@ -203,6 +184,9 @@ pub fn next_reply<T: Talk, O: Observer>(
     requires count { row.now.count ≤ 9000 }
     requires fits { RequestFits (command_view row.now.command) }
     ensures within { flight.new.sent ≤ row.now.count }
+    // Commands are sent only as far as the server's window allows: no more are without a reply.
+    ensures few { flight.new.sent
+        ≤ max flight.old.sent (flight.new.received + flight.new.pace.window) }
     // A reply is received only where its command was sent.
     ensures asked { IfOk result
         (λ came. IfSome (taken came reply.new.items)
@@ -236,6 +220,7 @@ pub fn next_reply<T: Talk, O: Observer>(
     for turns in 0..MOST_TURNS {
         if receive_asked(talk, flight.received < flight.sent, reply) {
             flight.received += 1;
+            flight.pace.grow();
             observer.hear();
             return Ok(true);
         }
@@ -290,12 +275,7 @@ pub fn ask_telling<T: Talk, O: Observer>(
         count: 1,
         command,
     };
-    let mut flight = Flight {
-        sent: 0,
-        received: 0,
-        limit: NO_LIMIT,
-        command: CommandBytes::new(),
-    };
+    let mut flight = Flight::new();
     let came = next_reply(talk, &row, &mut flight, reply, observer);
     *is_sent = flight.sent > 0;
     came

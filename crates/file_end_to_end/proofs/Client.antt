@@ -8,11 +8,12 @@ use Rattle.chaos_lab.specs.declared.side.Side.TheVariants.{A, B}
 use Rattle.chaos_net.specs.Net.NetEvent.{At, Arrives}
 use Rattle.chaos_node.specs.Arrive.{Arrival, arrive_at_client, deliver_effect}
 use Rattle.chaos_node.specs.Phase.{over_packets, over_slots}
-use Rattle.chaos_node.specs.Slots.{tick_at}
+use Rattle.chaos_node.specs.Timer.{tick_by}
 use Rattle.chaos_node.specs.Turn.{client_phases}
+use Rattle.chaos_node.specs.declared.timer.RetransmitTimer.{RetransmitTimer}
 use Rattle.chaos_net.specs.Come.{AreFresh, AreSent, ComeFrom, ComeFresh, nothing_upon}
 use Rattle.file_net.specs.FileNet.{FileNet, FileEvent, Nets, Serves, FileRun, file_happens}
-use Rattle.file_end_to_end.proofs.Led.{IsLed, Leads, none_led, tick_led, copy_led, both_led, then_led, slots_led}
+use Rattle.file_end_to_end.proofs.Led.{IsLed, Leads, none_led, timed_led, copy_led, both_led, then_led, slots_led}
 
 -- an event of the net
 abbrev pub IsOfNet : FileEvent → Type 0
@@ -46,14 +47,14 @@ client_arrived f numbers None now from fresh = (f, none_led IsTurning A f)
 client_arrived f numbers (Some (Err fault)) now from fresh = (f, none_led IsTurning A f)
 client_arrived f numbers (Some (Ok packets)) now from fresh = packets_led f now numbers packets from fresh
 
-pub client_led : (f : FileNet) (numbers : List ℕ) (came : Arrival) (now : ℕ) → ComeFrom f.net A numbers came
-    → ComeFresh nothing_upon f.net A now numbers came → Leads IsTurning A f (client_phases came now (f.net A).host)
-client_led f numbers came now from fresh =
-    then_led IsTurning A f (arrive_at_client came now (f.net A).host) (over_slots (tick_at now) (length (f.net A).host.slots))
-    (client_arrived f numbers came now from fresh)
-    (λ g. slots_led IsTurning A (tick_at now)
-    (λ place k. (file_happens k (Nets (At A (Ticks place now))), tick_led IsTurning A k now place refl tt))
-    (length (f.net A).host.slots) g)
+pub client_led : (f : FileNet) (timers : List RetransmitTimer) (numbers : List ℕ) (came : Arrival) (now : ℕ)
+    → ComeFrom f.net A numbers came → ComeFresh nothing_upon f.net A now numbers came
+    → Leads IsTurning A f (client_phases timers came now (f.net A).host)
+client_led f timers numbers came now from fresh =
+    then_led IsTurning A f (arrive_at_client came now (f.net A).host)
+    (over_slots (tick_by timers now) (length (f.net A).host.slots)) (client_arrived f numbers came now from fresh)
+    (λ g. slots_led IsTurning A (tick_by timers now)
+    (λ place k. timed_led IsTurning A k timers now place refl tt) (length (f.net A).host.slots) g)
 
 -- nothing is served
 pub net_service : (events : List FileEvent) (f g : FileNet) → FileRun f events g → AllByRecursion IsOfNet events

@@ -1,4 +1,4 @@
--- A turn of the server, computed: each slot is served by FILE's definition.
+-- A turn of the server, computed: each slot is served by FILE's definition, and no timer holds a tick back.
 use Rattle.std.proofs.Common.{ℕ, zero, suc, List, [], ◌∷◌, ◌++◌, length, Option, Some, None, refl}
 use Rattle.std.specs.Prelude.{⊤, slice_set}
 use Rattle.chaos_packet.specs.Packet.{PacketView}
@@ -22,8 +22,8 @@ use Rattle.file_server.specs.Arrive.{arrive_at_server}
 use Rattle.file_server.specs.Serve.{IsServedAt, ServesPlace, ServesSlots, serving_after}
 use Rattle.file_server.specs.Server.{Server, after_giving_back, with_host}
 use Rattle.file_server.specs.Sessions.{Serving, serving_at, serving_of}
+use Rattle.file_server.specs.Service.{service_options}
 use Rattle.file_server.specs.Slots.{end_phases}
-use Rattle.file_server.specs.declared.limits.TheConstants.{SILENT_MILLIS}
 use Rattle.file_server.specs.declared.serve_mode.ServeMode.TheVariants.{Once}
 use Rattle.file_end_to_end.specs.Turns.{server_turns}
 use Rattle.file_end_to_end.specs.TwoClients.{contents, count, may_give}
@@ -90,7 +90,7 @@ module _ (step : Files → SessionView → List ℕ → Stepped) where
   }
 
   abbrev ending : ℕ → List (List PacketView) → Left → Left
-  ending now lots served = ended lots served (end_phases (Some SILENT_MILLIS) served.server.sessions now served.server.host)
+  ending now lots served = ended lots served (end_phases (service_options []) served.server.sessions now served.server.host)
 
   abbrev served : ℕ → Server Files → Effect → Left
   served now s came = ending now came.lots (serve_slots now (length s.host.slots) (with_host s came.host))
@@ -178,7 +178,7 @@ module _ (step : Files → SessionView → List ℕ → Stepped) where
   server_turn came start now s are =
       let first = serve_slots now (length s.host.slots) (with_host s (arrive_at_server came start now s.host).host) in (
         Once,
-        Some SILENT_MILLIS,
+        service_options [],
         record {
           served = first.server;
           replies = first.lots;

@@ -182,9 +182,10 @@ module _ {S : Type 0} (contents : S → Option Files) (may_give : S → List ℕ
       → Follows contents may_give count m (OnlyTurns contents may_give count m) f (system_of t)
   engine_turn p f w t now asks number stands (does, hands, posts) server fresh =
       let b : CallerView = asked_again p now w.client.caller in
-      let may_wait = does.1.1.0 in
-      let runs = does.1.1.4 in
-      let lots : List (List PacketView) = (client_phases runs.came now b.host).lots in
+      let timers = does.1.1.0 in
+      let may_wait = does.1.1.1.0 in
+      let runs = does.1.1.1.4 in
+      let lots : List (List PacketView) = (client_phases timers runs.came now b.host).lots in
       let empty : t.client.caller.out.packets ≡ [] = ap (λ x. x.out.packets) does.1.0 in
       let changes = change contents may_give count in
       let more : List Addressed = sent_by b.carriage (b.out.packets ∷ lots) in
@@ -193,8 +194,8 @@ module _ {S : Type 0} (contents : S → Option Files) (may_give : S → List ℕ
       ∙ ap (λ l. w.posts ++ l) (sends_of_turn (datagrams_of b.carriage b.out.packets) may_wait (sent_by b.carriage lots)) in
       let first : TakesTurn program_host (program_turns changes) (handed w.server.posts number) 0 now
       (system_by b w.posts w.server A) (system_by t.client.caller (w.posts ++ more) t.server A) =
-      (client_turns_are_steps changes (λ l. l ≡ asks) may_wait b.carriage 0 now (station b.host w.client.queue b.out)
-      (station t.client.caller.host t.client.queue t.client.caller.out) does.1.1.2 does.1.1.3 w.posts w.server.posts number runs hands empty).0 in
+      (client_turns_are_steps changes (λ l. l ≡ asks) timers may_wait b.carriage 0 now (station b.host w.client.queue b.out)
+      (station t.client.caller.host t.client.queue t.client.caller.out) does.1.1.1.2 does.1.1.1.3 w.posts w.server.posts number runs hands empty).0 in
       let one : TakesTurn program_host (program_turns changes) (handed w.server.posts number) 0 now
       (system_by b w.posts w.server A) (system_of t A) =
       subst

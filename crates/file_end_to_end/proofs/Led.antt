@@ -27,13 +27,15 @@ use Rattle.chaos_net.specs.Net.NetEvent.{At, Arrives}
 use Rattle.chaos_node.specs.Arrive.{Arrival, deliver_effect}
 use Rattle.chaos_node.specs.Phase.{Effect, and_then, effect_of, no_effect_on, over_packets, over_slots}
 use Rattle.chaos_node.specs.Slots.{tick_at}
+use Rattle.chaos_node.specs.Timer.{holds_at, tick_by}
+use Rattle.chaos_node.specs.declared.timer.RetransmitTimer.{RetransmitTimer}
 use Rattle.chaos_net.specs.Come.{Upon, AreFresh, AreSent, ComeFrom, ComeFresh, coming}
 use Rattle.chaos_net.specs.MadeTurns.{packets_sent}
 use Rattle.chaos_net.proofs.SystemComing.{tick_made}
 use Rattle.chaos_net.proofs.Made.{copy_made, effect_at, own_made, packets_both}
 use Rattle.file_server.specs.Arrive.{accept_by, arrive_at_server, greet, request_in}
 use Rattle.file_server.specs.Sessions.{Serving, serving_at}
-use Rattle.file_server.specs.Slots.{close_at, close_by, close_for, end_phases, is_late, is_over_in, release_at, release_by}
+use Rattle.file_server.specs.Slots.{Options, close_at, close_by, close_for, end_phases, is_late, is_over_in, release_at, release_by}
 use Rattle.file_end_to_end.specs.Turns.{accepts, accepts_upon}
 use Rattle.file_net.specs.FileNet.{FileNet, FileEvent, Nets, FileRun, file_happens, is_by_server}
 
@@ -117,6 +119,21 @@ module _ (P : FileEvent → Type 0) (x : Side) where
         sent = r.sent;
         far = r.far;
       }
+
+  -- a tick, or nothing where it is held back
+  held_led : (f : FileNet) (now place : ℕ) (held : Bool) → is_by_server (At x (Ticks place now)) ≡ false
+      → P (Nets (At x (Ticks place now)))
+      → Leads P x f (if held then no_effect_on (f.net x).host else tick_at now place (f.net x).host)
+  held_led f now place true not_server kind = (f, none_led f)
+  held_led f now place false not_server kind =
+      (file_happens f (Nets (At x (Ticks place now))), tick_led f now place not_server kind)
+
+  -- a tick that a timer may hold back
+  pub timed_led : (f : FileNet) (timers : List RetransmitTimer) (now place : ℕ)
+      → is_by_server (At x (Ticks place now)) ≡ false → P (Nets (At x (Ticks place now)))
+      → Leads P x f (tick_by timers now place (f.net x).host)
+  timed_led f timers now place not_server kind =
+      held_led f now place (holds_at timers now place (f.net x).host) not_server kind
 
   -- a packet that the other host sent comes
   pub copy_led : (f : FileNet) (k now : ℕ) (p : PacketView) (q : Sent) → slice_get (f.net (other x)).sent k ≡ Some q
@@ -218,19 +235,19 @@ released : (f : FileNet) (o : Option ℕ) → Leads IsEnding B f (release_by (f.
 released f None = (f, none_led IsEnding B f)
 released f (Some id) = (file_happens f (Nets (At B (Releases id))), own_led IsEnding B f (Releases id) tt refl tt)
 
-pub ended : (f : FileNet) (silence : Option ℕ) (sessions : List Serving) (now : ℕ)
-    → Leads IsEnding B f (end_phases silence sessions now (f.net B).host)
-ended f silence sessions now =
+pub ended : (f : FileNet) (options : Options) (sessions : List Serving) (now : ℕ)
+    → Leads IsEnding B f (end_phases options sessions now (f.net B).host)
+ended f options sessions now =
     let h = (f.net B).host in
     let size = length h.slots in
-    then_led IsEnding B f (and_then (over_slots (close_at silence now sessions) size h) (over_slots release_at size))
-    (over_slots (tick_at now) size)
-    (then_led IsEnding B f (over_slots (close_at silence now sessions) size h) (over_slots release_at size)
-    (slots_led IsEnding B (close_at silence now sessions)
-    (λ place g. closed g silence now (serving_at sessions place) (id_at (g.net B).host place)) size f)
+    then_led IsEnding B f (and_then (over_slots (close_at options.silence now sessions) size h) (over_slots release_at size))
+    (over_slots (tick_by options.timers now) size)
+    (then_led IsEnding B f (over_slots (close_at options.silence now sessions) size h) (over_slots release_at size)
+    (slots_led IsEnding B (close_at options.silence now sessions)
+    (λ place g. closed g options.silence now (serving_at sessions place) (id_at (g.net B).host place)) size f)
     (λ g. slots_led IsEnding B release_at (λ place k. released k (id_at (k.net B).host place)) size g))
-    (λ g. slots_led IsEnding B (tick_at now)
-    (λ place k. (file_happens k (Nets (At B (Ticks place now))), tick_led IsEnding B k now place refl tt)) size g)
+    (λ g. slots_led IsEnding B (tick_by options.timers now)
+    (λ place k. timed_led IsEnding B k options.timers now place refl tt) size g)
 
 -- ---- how much the turns of B's slots grow in the end of a turn
 
@@ -335,6 +352,13 @@ release_grows f place None at = grows_none f (here place)
 release_grows f place (Some id) at =
     event_grows f (Releases id) place (ended_at place id (named_slot (f.net B).host.slots id) (at id refl))
 
+held_grows : (f : FileNet) (now place : ℕ) (held : Bool)
+    → Grows (here place) f (held_led IsEnding B f now place held refl tt).0
+unfolding held_led
+held_grows f now place true = grows_none f (here place)
+held_grows f now place false =
+    event_grows f (Ticks place now) place (used_at place (Tick now) (slice_get (f.net B).host.slots place))
+
 then_grows : (a b c m n : ℕ) → b ≤ c + m → a ≤ b + n → a ≤ c + (m + n)
 then_grows a b c m n one two = omega (arith, one, two)
 
@@ -368,23 +392,23 @@ before_one (suc n) p = by (p == n) refl (before_one n p)
     by false is rest = omega (arith, rest)
 
 -- by three in the end of a turn
-pub ended_grows : (f : FileNet) (silence : Option ℕ) (sessions : List Serving) (now : ℕ)
-    → length (f.net B).host.slots ≤ 255 → Grows (λ p. 3) f (ended f silence sessions now).0
-unfolding ended then_led closed closed_by
-ended_grows f silence sessions now few p =
+pub ended_grows : (f : FileNet) (options : Options) (sessions : List Serving) (now : ℕ)
+    → length (f.net B).host.slots ≤ 255 → Grows (λ p. 3) f (ended f options sessions now).0
+unfolding ended then_led closed closed_by timed_led
+ended_grows f options sessions now few p =
     let size = length (f.net B).host.slots in
-    let closing : (place : ℕ) (g : FileNet) → Leads IsEnding B g (close_at silence now sessions place (g.net B).host) =
-    λ place g. closed g silence now (serving_at sessions place) (id_at (g.net B).host place) in
+    let closing : (place : ℕ) (g : FileNet) → Leads IsEnding B g (close_at options.silence now sessions place (g.net B).host) =
+    λ place g. closed g options.silence now (serving_at sessions place) (id_at (g.net B).host place) in
     let releasing : (place : ℕ) (g : FileNet) → Leads IsEnding B g (release_at place (g.net B).host) =
     λ place k. released k (id_at (k.net B).host place) in
-    let ticking : (place : ℕ) (g : FileNet) → Leads IsEnding B g (tick_at now place (g.net B).host) =
-    λ place k. (file_happens k (Nets (At B (Ticks place now))), tick_led IsEnding B k now place refl tt) in
-    let f1 : FileNet = (slots_led IsEnding B (close_at silence now sessions) closing size f).0 in
+    let ticking : (place : ℕ) (g : FileNet) → Leads IsEnding B g (tick_by options.timers now place (g.net B).host) =
+    λ place k. timed_led IsEnding B k options.timers now place refl tt in
+    let f1 : FileNet = (slots_led IsEnding B (close_at options.silence now sessions) closing size f).0 in
     let f2 : FileNet = (slots_led IsEnding B release_at releasing size f1).0 in
-    let f3 : FileNet = (slots_led IsEnding B (tick_at now) ticking size f2).0 in
-    let one = slots_grow (close_at silence now sessions) closing
+    let f3 : FileNet = (slots_led IsEnding B (tick_by options.timers now) ticking size f2).0 in
+    let one = slots_grow (close_at options.silence now sessions) closing
     (λ place g small.
-    close_grows g (serving_at sessions place).eof (is_late silence (serving_at sessions place).since now) place
+    close_grows g (serving_at sessions place).eof (is_late options.silence (serving_at sessions place).since now) place
     (id_at (g.net B).host place) (λ id is. index_at place (slice_get (g.net B).host.slots place) id small is))
     size few f p in
     let two = slots_grow release_at releasing
@@ -392,10 +416,8 @@ ended_grows f silence sessions now few p =
     release_grows g place (id_at (g.net B).host place)
     (λ id is. index_at place (slice_get (g.net B).host.slots place) id small is))
     size few f1 p in
-    let three = slots_grow (tick_at now) ticking
-    (λ place g small.
-    event_grows g (Ticks place now) place (used_at place (Tick now) (slice_get (g.net B).host.slots place)))
-    size few f2 p in
+    let three = slots_grow (tick_by options.timers now) ticking
+    (λ place g small. held_grows g now place (holds_at options.timers now place (g.net B).host)) size few f2 p in
     three_grow ((f.net B).turn p) ((f1.net B).turn p) ((f2.net B).turn p) ((f3.net B).turn p) (before size p)
     (before_one size p) one two three
   where

@@ -32,9 +32,9 @@ use Rattle.chaos_node.specs.declared.limits.TheConstants.{TURN_ROOM}
 use Rattle.file_client.specs.Calls.{data_read, is_wrote}
 use Rattle.file_client.specs.Caller.{CallerView, TurnsAt, after_call, asked_again, is_late}
 use Rattle.file_client.specs.Talk.{Step, Writes, Reads, Turns, command_item, talker}
+use Rattle.file_server.specs.Service.{service_options}
 use Rattle.file_server.specs.Sessions.{Serving}
 use Rattle.file_server.specs.Turn.{IsTurn}
-use Rattle.file_server.specs.declared.limits.TheConstants.{SILENT_MILLIS}
 use Rattle.file_server.specs.declared.serve_mode.ServeMode.TheVariants.{Once}
 use Rattle.file_end_to_end.specs.FileGot.{pace}
 use Rattle.file_end_to_end.specs.TwoClients.{contents, count, may_give}
@@ -95,7 +95,7 @@ world_at m c out ps d serving qs steps = record {
   steps = steps;
 }
 
--- ---- the engine's turn
+-- ---- the engine's turn, without timers
 
 abbrev end_of : Bool → TurnEnd
 end_of true = end.Worked
@@ -115,36 +115,39 @@ hands_so posts (Some k) came is = is
 -- what a turn makes of a caller, and what came in it
 abbrev Takes : List Ask → ℕ → List Addressed → Option ℕ → CallerView → CallerView → Type 0
 Takes asks now posts number b d =
-    (t : TurnsAt (λ more. more ≡ asks) (pace.Waits true) now None None b d) × Hands posts number t.1.4.came
+    (t : TurnsAt (λ more. more ≡ asks) (pace.Waits true) now None None b d) × Hands posts number t.1.1.4.came
 
 abbrev pub asks_of : List PacketView → List (List PacketView) → List Ask
 asks_of out lots = turn_asks One true out lots
 
 takes_so : (c e : ConnView) (out qs : List PacketView) (now : ℕ) (number : Option ℕ) (came : Arrival)
     (lots : List (List PacketView))
-    → handed (posts_of qs) number ≡ came → client_phases came now (engine_at c) ≡ record { host = engine_at e; lots = lots }
+    → handed (posts_of qs) number ≡ came → client_phases [] came now (engine_at c) ≡ record { host = engine_at e; lots = lots }
     → AreRead (out ++ packets_of lots) → Takes (asks_of out lots) now (posts_of qs) number (caller_at c out) (caller_at e [])
 takes_so c e out qs now number came lots is phases are =
-    let made : Effect = client_phases came now (engine_at c) in (
+    let made : Effect = client_phases [] came now (engine_at c) in (
       (
         refl,
         (
-          true,
-          refl,
-          end_of (has_work out came made.lots),
-          told_at_client came now (engine_at c),
-          record {
-            came = came;
-            host = ap (λ (x : Effect). x.host) (sym phases);
-            told = refl;
-            link = record {
-              queue = tt;
-              asks = ap (λ (x : Effect). turn_asks One true out x.lots) phases;
-              read = subst (λ (ls : List (List PacketView)). read_all (sent_by One (out ∷ ls)) ≡ packets_of (out ∷ ls))
-                  (ap (λ (x : Effect). x.lots) (sym phases)) (lots_read (out ∷ lots) are);
-              work = tells_so (has_work out came made.lots);
-            };
-          },
+          [],
+          (
+            true,
+            (λ waits. waits),
+            end_of (has_work out came made.lots),
+            told_at_client came now (engine_at c),
+            record {
+              came = came;
+              host = ap (λ (x : Effect). x.host) (sym phases);
+              told = refl;
+              link = record {
+                queue = tt;
+                asks = ap (λ (x : Effect). turn_asks One true out x.lots) phases;
+                read = subst (λ (ls : List (List PacketView)). read_all (sent_by One (out ∷ ls)) ≡ packets_of (out ∷ ls))
+                    (ap (λ (x : Effect). x.lots) (sym phases)) (lots_read (out ∷ lots) are);
+                work = tells_so (has_work out came made.lots);
+              };
+            },
+          ),
         ),
       ),
       hands_so (posts_of qs) number came (sym is),
@@ -153,7 +156,7 @@ takes_so c e out qs now number came lots is phases are =
 pub engine_turns : (m : Files) (c e : ConnView) (out ps more : List PacketView) (d : ConnView) (serving : Serving)
     (qs : List PacketView) (steps : List Step) (now : ℕ) (number : Option ℕ) (came : Arrival)
     (lots : List (List PacketView)) → pace.Shows now → is_late now (caller_at c out) ≡ false
-    → handed (posts_of qs) number ≡ came → client_phases came now (engine_at c) ≡ record { host = engine_at e; lots = lots }
+    → handed (posts_of qs) number ≡ came → client_phases [] came now (engine_at c) ≡ record { host = engine_at e; lots = lots }
     → AreRead (out ++ packets_of lots) → more ≡ ps ++ (out ++ packets_of lots)
     → Moves contents may_give count pace (world_at m c out ps d serving qs steps)
     (EngineSteps (Turns now (asks_of out lots)) number)
@@ -224,12 +227,12 @@ engine_reads m c e out more sent ps d serving qs steps reply call is = (
   refl,
 )
 
--- ---- the server's turn
+-- ---- the server's turn, without timers
 
 pub server_moves : (m n : Files) (c : ConnView) (out ps : List PacketView) (b k : ConnView) (serving left : Serving)
     (qs more : List PacketView) (steps : List Step) (number : Option ℕ) (start now : ℕ) (came : Arrival)
     (lots : List (List PacketView)) → handed (posts_of ps) number ≡ came
-    → IsTurn (change contents may_give count) Once (Some SILENT_MILLIS) came start now (served_by m b serving)
+    → IsTurn (change contents may_give count) Once (service_options []) came start now (served_by m b serving)
     (served_by n k left) lots
     → AreRead (packets_of lots) → more ≡ qs ++ packets_of lots
     → Moves contents may_give count pace (world_at m c out ps b serving qs steps) (ServerTurns number start now)
@@ -240,9 +243,9 @@ server_moves m n c out ps b k serving left qs more steps number start now came l
     lots = lots;
     turn = (
       Once,
-      Some SILENT_MILLIS,
+      service_options [],
       subst
-          (λ (a : Arrival). IsTurn (change contents may_give count) Once (Some SILENT_MILLIS) a start now (served_by m b serving) (served_by n k left) lots)
+          (λ (a : Arrival). IsTurn (change contents may_give count) Once (service_options []) a start now (served_by m b serving) (served_by n k left) lots)
           (sym is) turn,
     );
     read = lots_read lots are;

@@ -1,4 +1,5 @@
--- A turn of a server of sixteen slots, of which the first alone is in use: what the first slot does, and nothing else.
+-- A turn of a server of sixteen slots, of which the first alone is in use: what the first slot does, and nothing else. The
+-- turn has no timers.
 use Rattle.std.proofs.Common.{◌≡◌, ℕ, zero, suc, List, [], ◌∷◌, ◌++◌, codes, replicate, Some, None, refl, sym, ap, ◌∙◌, subst, append-nil}
 use Rattle.std.specs.Prelude.{slice_get, slice_set}
 use Rattle.chaos_packet.specs.Packet.{PacketView}
@@ -13,9 +14,11 @@ use Rattle.chaos_conn.specs.declared.answers.Ticked.TheVariants.{Quiet}
 use Rattle.chaos_node.specs.Arrive.{Arrival}
 use Rattle.chaos_node.specs.Phase.{Effect, and_then, effect_singly_of, no_effect_on, over_slots}
 use Rattle.chaos_node.specs.Slots.{tick_at}
+use Rattle.chaos_node.specs.Timer.{tick_by}
 use Rattle.file_server.specs.Arrive.{arrive_at_server}
 use Rattle.file_server.specs.Serve.{ServesMode, ServesPlace, ServesSlots}
 use Rattle.file_server.specs.Server.{Server, after_giving_back, server, with_host}
+use Rattle.file_server.specs.Service.{service_options}
 use Rattle.file_server.specs.Sessions.{Serving, new_serving, serving_at, without_files}
 use Rattle.file_server.specs.Slots.{close_at, close_for, end_phases, given_back, given_back_at, release_at, release_by}
 use Rattle.file_server.specs.Turn.{IsTurn}
@@ -88,7 +91,7 @@ ends_so : (now : ℕ) (d k : ConnView) (serving : Serving) (close release ticks 
     → close_at (Some SILENT_MILLIS) now (serving ∷ other_servings) 0 (server_at d) ≡ record { host = server_at d; lots = close }
     → release_at 0 (server_at d) ≡ record { host = server_at d; lots = release }
     → tick_at now 0 (server_at d) ≡ record { host = server_at k; lots = ticks }
-    → end_phases (Some SILENT_MILLIS) (serving ∷ other_servings) now (server_at d)
+    → end_phases (service_options []) (serving ∷ other_servings) now (server_at d)
     ≡ record { host = server_at k; lots = (close ++ release) ++ ticks }
 ends_so now d k serving close release ticks closed released ticked =
     let closing = close_at (Some SILENT_MILLIS) now (serving ∷ other_servings) in
@@ -96,10 +99,10 @@ ends_so now d k serving close release ticks closed released ticked =
     (λ n. ap (close_for (Some SILENT_MILLIS) now (serving_at (serving ∷ other_servings) (suc n)) (server_at d)) (free_at d n)) 15 in
     let two = over_first release_at (server_at d) (server_at d) release released
     (λ n. ap (release_by (server_at d)) (free_at d n)) 15 in
-    let three = over_first (tick_at now) (server_at d) (server_at k) ticks ticked
+    let three = over_first (tick_by [] now) (server_at d) (server_at k) ticks ticked
     (λ n. ap effect_singly_of (quiet_in 15 n (server_at k) (suc n) now)) 15 in
-    ap (λ (e : Effect). and_then (and_then e (over_slots release_at 16)) (over_slots (tick_at now) 16)) one
-    ∙ ap (λ (e : Effect). and_then (record { host = e.host; lots = close ++ e.lots }) (over_slots (tick_at now) 16)) two
+    ap (λ (e : Effect). and_then (and_then e (over_slots release_at 16)) (over_slots (tick_by [] now) 16)) one
+    ∙ ap (λ (e : Effect). and_then (record { host = e.host; lots = close ++ e.lots }) (over_slots (tick_by [] now) 16)) two
     ∙ ap (λ (e : Effect). record { host = e.host; lots = (close ++ release) ++ e.lots }) three
 
 -- ---- each slot is served
@@ -132,7 +135,7 @@ pub turns_so : (m n : Files) (came : Arrival) (start now : ℕ) (b d e k : ConnV
     → release_at 0 (server_at e) ≡ record { host = server_at e; lots = release }
     → tick_at now 0 (server_at e) ≡ record { host = server_at k; lots = ticks }
     → id_at (server_at k) 0 ≡ Some id
-    → IsTurn (change contents may_give count) Once (Some SILENT_MILLIS) came start now (served_by m b serving)
+    → IsTurn (change contents may_give count) Once (service_options []) came start now (served_by m b serving)
     (served_by n k left) (arrival ++ (replies ++ ((close ++ release) ++ ticks)))
 turns_so m n came start now b d e k serving left id arrival replies close release ticks arrives serves closed released ticked used =
     let ends = ends_so now e k left close release ticks closed released ticked in

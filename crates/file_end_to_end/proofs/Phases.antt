@@ -11,14 +11,14 @@ use Rattle.chaos_net.specs.Net.{Net, after_events, happens}
 use Rattle.chaos_net.specs.Net.NetEvent.{At, Arrives}
 use Rattle.chaos_node.specs.Arrive.{Arrival, deliver_effect}
 use Rattle.chaos_node.specs.Phase.{and_then, effect_of, no_effect_on, over_slots}
-use Rattle.chaos_node.specs.Slots.{tick_at}
+use Rattle.chaos_node.specs.Timer.{tick_by}
 use Rattle.chaos_net.specs.Come.{ComeFrom, ComeFresh}
 use Rattle.chaos_net.specs.MadeTurns.{IsMade, Makes}
 use Rattle.chaos_net.proofs.Made.{both_made, copy_made, none_made, own_made, then_made}
-use Rattle.chaos_net.proofs.SystemComing.{MadeOfEach, packets_made, slots_made, ticks_made}
+use Rattle.chaos_net.proofs.SystemComing.{MadeOfEach, packets_made, slots_made, timed_ticks_made}
 use Rattle.file_server.specs.Arrive.{accept_by, arrive_at_server, greet, request_in}
 use Rattle.file_server.specs.Sessions.{Serving, serving_at}
-use Rattle.file_server.specs.Slots.{close_at, close_by, close_for, end_phases, is_late, is_over_in, release_at, release_by}
+use Rattle.file_server.specs.Slots.{Options, close_at, close_by, close_for, end_phases, is_late, is_over_in, release_at, release_by}
 use Rattle.file_end_to_end.specs.Turns.{accepts, accepts_upon}
 
 -- ---- what came
@@ -66,15 +66,15 @@ released : (n : Net) (x : Side) (o : Option ℕ) → Makes n x (release_by (n x)
 released n x None = (n, none_made n x)
 released n x (Some id) = (happens n (At x (Releases id)), own_made n x (Releases id) tt)
 
-pub ended : (n : Net) (x : Side) (silence : Option ℕ) (sessions : List Serving) (now : ℕ)
-    → Makes n x (end_phases silence sessions now (n x).host)
-ended n x silence sessions now =
+pub ended : (n : Net) (x : Side) (options : Options) (sessions : List Serving) (now : ℕ)
+    → Makes n x (end_phases options sessions now (n x).host)
+ended n x options sessions now =
     let h = (n x).host in
     let size = length h.slots in
-    then_made n x (and_then (over_slots (close_at silence now sessions) size h) (over_slots release_at size))
-    (over_slots (tick_at now) size)
-    (then_made n x (over_slots (close_at silence now sessions) size h) (over_slots release_at size)
-    (slots_made x (close_at silence now sessions)
-    (λ place m. closed m x silence now (serving_at sessions place) (id_at (m x).host place)) size n)
+    then_made n x (and_then (over_slots (close_at options.silence now sessions) size h) (over_slots release_at size))
+    (over_slots (tick_by options.timers now) size)
+    (then_made n x (over_slots (close_at options.silence now sessions) size h) (over_slots release_at size)
+    (slots_made x (close_at options.silence now sessions)
+    (λ place m. closed m x options.silence now (serving_at sessions place) (id_at (m x).host place)) size n)
     (λ m still. slots_made x release_at (λ place k. released k x (id_at (k x).host place)) size m))
-    (λ m still. ticks_made x now size m)
+    (λ m still. timed_ticks_made options.timers x now size m)

@@ -11,6 +11,7 @@ use Rattle.chaos_net.specs.Queue.{IsAskedToPost}
 use Rattle.chaos_net.specs.System.{Hands, handed}
 use Rattle.chaos_net.proofs.Queue.{same_phases}
 use Rattle.file_server.specs.Server.{Server}
+use Rattle.file_server.specs.Slots.{Options}
 use Rattle.file_server.specs.Turn.{IsTurn}
 use Rattle.file_server.specs.declared.serve_mode.ServeMode.{ServeMode}
 use Rattle.chaos_file.specs.Store.{StoreChange}
@@ -41,42 +42,43 @@ asked_to_post carriage may_wait waiting lots asks = record {
 
 module _ {S : Type 0} (changes : S → S → StoreChange) (asked : List Ask → Type 0) where
   pub client_turns_are_steps : ClientTurnsAreSteps changes asked
-  client_turns_are_steps may_wait carriage start now before after result answer posts others number runs is none = (
-    record {
-      carriage = carriage;
-      lots = (client_phases runs.came now before.node).lots;
-      turn =
-          (runs.host ∙ ap (λ (e : Effect). e.host) (same_phases others number runs.came now before.node is), ap (λ (e : Effect). e.lots) (same_phases others number runs.came now before.node is));
-      read = runs.link.read;
-      waiting = none;
-      posts = refl;
-    },
-    asked_to_post carriage may_wait before.outbox.packets (client_phases runs.came now before.node).lots runs.link.asks,
-  )
+  client_turns_are_steps timers may_wait carriage start now before after result answer posts others number runs is none =
+      let lots = (client_phases timers runs.came now before.node).lots in
+      let same = same_phases timers others number runs.came now before.node is in (
+        record {
+          carriage = carriage;
+          lots = lots;
+          turn = (timers, runs.host ∙ ap (λ (e : Effect). e.host) same, ap (λ (e : Effect). e.lots) same);
+          read = runs.link.read;
+          waiting = none;
+          posts = refl;
+        },
+        asked_to_post carriage may_wait before.outbox.packets lots runs.link.asks,
+      )
 
   -- a datagram that carries no packet is as none
-  same_turn : (mode : ServeMode) (silence : Option ℕ) (others : List Addressed) (number : Option ℕ) (came : Arrival) (start now : ℕ) (s t : Server S)
-      (lots : List (List PacketView)) → Hands others number came → IsTurn changes mode silence came start now s t lots
-      → IsTurn changes mode silence (handed others number) start now s t lots
-  same_turn mode silence others None None start now s t lots hands turn = turn
-  same_turn mode silence others None (Some (Err fault)) start now s t lots hands turn = record {
+  same_turn : (mode : ServeMode) (options : Options) (others : List Addressed) (number : Option ℕ) (came : Arrival) (start now : ℕ) (s t : Server S)
+      (lots : List (List PacketView)) → Hands others number came → IsTurn changes mode options came start now s t lots
+      → IsTurn changes mode options (handed others number) start now s t lots
+  same_turn mode options others None None start now s t lots hands turn = turn
+  same_turn mode options others None (Some (Err fault)) start now s t lots hands turn = record {
     served = turn.served;
     replies = turn.replies;
     serves = turn.serves;
     ended = turn.ended;
     out = turn.out;
   }
-  same_turn mode silence others None (Some (Ok packets)) start now s t lots hands turn =
-      subst (λ (o : Arrival). IsTurn changes mode silence o start now s t lots) hands turn
-  same_turn mode silence others (Some k) came start now s t lots hands turn =
-      subst (λ (o : Arrival). IsTurn changes mode silence o start now s t lots) hands turn
+  same_turn mode options others None (Some (Ok packets)) start now s t lots hands turn =
+      subst (λ (o : Arrival). IsTurn changes mode options o start now s t lots) hands turn
+  same_turn mode options others (Some k) came start now s t lots hands turn =
+      subst (λ (o : Arrival). IsTurn changes mode options o start now s t lots) hands turn
 
   pub server_turns_are_steps : ServerTurnsAreSteps changes asked
-  server_turns_are_steps mode silence waits carriage start now before after result posts others number runs is none = (
+  server_turns_are_steps mode options waits carriage start now before after result posts others number runs is none = (
     record {
       carriage = carriage;
       lots = runs.lots;
-      turn = (mode, silence, same_turn mode silence others number runs.came start now before.node after.node runs.lots is runs.turn);
+      turn = (mode, options, same_turn mode options others number runs.came start now before.node after.node runs.lots is runs.turn);
       read = runs.link.read;
       waiting = none;
       posts = refl;

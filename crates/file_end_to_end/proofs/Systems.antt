@@ -164,10 +164,10 @@ module _ {S : Type 0} (contents : S → Option Files) (may_give : S → List ℕ
       let from = comes_from f.net A (s B).posts (s B).waiting (st.net.sent B) number in
       let came : Arrival = handed (s B).posts number in
       let host : (f.net A).host ≡ h = st.net.hosts A ∙ ap program_host ps in
-      let led = client_led f (numbers_of (s B).posts number) came now from fresh in
+      let led = client_led f turn.0 (numbers_of (s B).posts number) came now from fresh in
       let g : FileNet = led.0 in
-      let same : client_phases came now (f.net A).host ≡ record { host = k; lots = one.lots } =
-      ap (client_phases came now) host ∙ (λ j. record { host = sym turn.0 j; lots = sym turn.1 j }) in
+      let same : client_phases turn.0 came now (f.net A).host ≡ record { host = k; lots = one.lots } =
+      ap (client_phases turn.0 came now) host ∙ (λ j. record { host = sym turn.1 j; lots = sym turn.2 j }) in
       let r : IsLed IsTurning A f g (record { host = k; lots = one.lots }) = subst (IsLed IsTurning A f g) same led.1 in
       let service = net_service r.events f g r.run (turning_of_net r.events r.kinds) in
       moved_on OnlyTurns s t f g A r.events k one.lots r.kinds st r.run r.host r.sent r.far (ap program_host (sym qs))

@@ -16,7 +16,7 @@ use Rattle.chaos_net.specs.MadeTurns.{packets_sent}
 use Rattle.file_server.specs.Arrive.{arrive_at_server}
 use Rattle.file_server.specs.Server.{Server, with_host}
 use Rattle.file_server.specs.Sessions.{Serving, serving_at}
-use Rattle.file_server.specs.Slots.{end_phases, given_back}
+use Rattle.file_server.specs.Slots.{Options, end_phases, given_back}
 use Rattle.file_server.specs.Turn.{IsTurn}
 use Rattle.file_server.specs.declared.serve_mode.ServeMode.{ServeMode}
 use Rattle.file_end_to_end.specs.Turns.{accepts_upon}
@@ -57,12 +57,12 @@ serving_turns m (Serves id now way ∷ events) f g h r all p =
 serving_turns m (Nets event ∷ events) f g h r all p = absurd all.0
 
 module _ {S : Type 0} (contents : S → Option Files) (may_give : S → List ℕ → ℕ → List ℕ → Type 0) (count : S → ℕ) where
-  pub turn_is_run : (mode : ServeMode) (silence : Option ℕ) (m : Files) (f : FileNet) (numbers : List ℕ) (came : Arrival) (start now : ℕ) (s t : Server S)
+  pub turn_is_run : (mode : ServeMode) (options : Options) (m : Files) (f : FileNet) (numbers : List ℕ) (came : Arrival) (start now : ℕ) (s t : Server S)
       (lots : List (List PacketView)) → IsSound m f → IsServer contents s f → ComeFrom f.net B numbers came
       → ComeFresh (accepts_upon start now) f.net B now numbers came
-      → IsTurn (change contents may_give count) mode silence came start now s t lots
+      → IsTurn (change contents may_give count) mode options came start now s t lots
       → (g : FileNet) × TurnIsRun contents f g t lots × Grows (λ p. 3) f g
-  turn_is_run mode silence m f numbers came start now s t lots h server from fresh turn =
+  turn_is_run mode options m f numbers came start now s t lots h server from fresh turn =
       -- what came
       let arrival : Effect = arrive_at_server came start now s.host in
       let first : Leads IsArriving B f arrival =
@@ -95,11 +95,11 @@ module _ {S : Type 0} (contents : S → Option Files) (may_give : S → List ℕ
       let h2 = run_keeps m two.led.events f1 f2 two.led.run h1 in
       let size2 : length served.host.slots ≡ length s.host.slots = two.size ∙ size1 in
       -- the end
-      let end : Effect = end_phases silence served.sessions now served.host in
+      let end : Effect = end_phases options served.sessions now served.host in
       let few = ((reached_is_played f2.net h2.reached) B).station.host.table.few in
       let last : (g : FileNet) × IsLed IsEnding B f2 g end × Grows (λ p. 3) f2 g =
-      subst (λ v. (g : FileNet) × IsLed IsEnding B f2 g (end_phases silence served.sessions now v) × Grows (λ p. 3) f2 g) two.at.host
-      (let e = ended f2 silence served.sessions now in (e.0, e.1, ended_grows f2 silence served.sessions now few)) in
+      subst (λ v. (g : FileNet) × IsLed IsEnding B f2 g (end_phases options served.sessions now v) × Grows (λ p. 3) f2 g) two.at.host
+      (let e = ended f2 options served.sessions now in (e.0, e.1, ended_grows f2 options served.sessions now few)) in
       let g : FileNet = last.0 in
       let h3 = run_keeps m last.1.events f2 g last.1.run h2 in
       let keeps = endings_keep m last.1.events f2 g h2 last.1.run last.1.kinds in

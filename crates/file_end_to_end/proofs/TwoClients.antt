@@ -136,7 +136,7 @@ listened s event = record {
 
 abbrev after_step : Both → Step → Both
 after_step s (Turn A number start now) =
-    client_left s (client_phases (handed s.server.posts number) now s.client.program)
+    client_left s (client_phases [] (handed s.server.posts number) now s.client.program)
 after_step s (Turn B number start now) =
     serves_left s (server_left file_step (handed s.client.posts number) start now s.server.program)
 after_step s (Calls A event) = called s event
@@ -154,7 +154,7 @@ IsListening event = ⊥
 -- what is to show of a step by itself
 abbrev IsStep : Both → Step → Type 0
 IsStep s (Turn A number start now) =
-    AreRead s.client (client_phases (handed s.server.posts number) now s.client.program).lots
+    AreRead s.client (client_phases [] (handed s.server.posts number) now s.client.program).lots
 IsStep s (Turn B number start now) =
     AreRead s.server (server_left file_step (handed s.client.posts number) start now s.server.program).lots
     × AreTold file_step now (length s.server.program.host.slots)
@@ -167,8 +167,8 @@ takes : (s : Both) (step : Step) → IsStep s step
 takes s (Turn A number start now) is = (
   record {
     carriage = One;
-    lots = (client_phases (handed s.server.posts number) now s.client.program).lots;
-    turn = (refl, refl);
+    lots = (client_phases [] (handed s.server.posts number) now s.client.program).lots;
+    turn = ([], refl, refl);
     read = same_lists _ _ is;
     waiting = refl;
     posts = refl;

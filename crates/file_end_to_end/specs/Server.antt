@@ -1,8 +1,8 @@
 -- A server of FILE in a file net, and the server's turns.
 --
---      a turn:   what came     each slot is served     what has ended is closed and released     ticks
---      events:   Arrives,      Serves, one for         Ends, Releases,                           Ticks
---                Accept        each command            one for each slot                         one for each slot
+--      a turn:   what came     each slot is served     what has ended is closed and released     ticks that no timer holds back
+--      events:   Arrives,      Serves, one for         Ends, Releases,                           Ticks, one for each
+--                Accept        each command            one for each slot                         slot that is ticked
 use Rattle.std.specs.Prelude.{◌≡◌, ℕ, suc, ◌<◌, List, ◌++◌, length, Option, Some, None, ⊤}
 use Rattle.chaos_packet.specs.Packet.{PacketView}
 use Rattle.chaos_file.specs.Session.{SessionView}

@@ -67,7 +67,7 @@ module _ {S : Type 0} where
 
 -- what came in a turn, as the engine's contract says
 abbrev pub came_in : (p : Pace) (now : ℕ) (asks : List Ask) (c d : Talker) → Does p c (Turns now asks) d → Arrival
-came_in p now asks c d does = does.1.1.4.came
+came_in p now asks c d does = does.1.1.1.4.came
 
 -- the datagrams that a link was asked to send
 abbrev pub sends_in : List Ask → List Addressed

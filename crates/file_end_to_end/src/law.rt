@@ -31,7 +31,8 @@ pub fn law_file_turns<L: Link, S: Store>()
     // after the turn. This side has sent exactly what went out, in order, whatever the store does.
     ensures turns { ServerTurnsAreRuns (change S.contents S.may_give S.count) }
     // The same holds for each turn over a link, as the contracts of `run_turn` and `Server::turn`
-    // describe the turn, for however long the server serves a peer that acknowledges nothing.
+    // describe the turn, for however long the server serves a peer that acknowledges nothing, and
+    // whatever its timers are.
     ensures runs { (old new : L) → ServerRunsAreRuns (change S.contents S.may_give S.count)
         (Asks (L.asked old) (L.asked new)) }
 {}
@@ -47,8 +48,9 @@ pub fn law_programs<L: Link, S: Store>()
         (program_turns (change S.contents S.may_give S.count)) }
     // The law of the network holds for each such net.
     ensures law { SystemsHold {P = Program S} program_host }
-    // A turn of a client over any link, as the contract of `client_turn` or `Node::turn` describes
-    // the turn, is such a step. What the step posts is what the link was asked to send.
+    // A turn of a client over any link with any timers, as the contract of `client_turn`,
+    // `timed_client_turn` or `Node::turn` describes the turn, is such a step. What the step posts is
+    // what the link was asked to send.
     ensures clients { (old new : L) → ClientTurnsAreSteps (change S.contents S.may_give S.count)
         (Asks (L.asked old) (L.asked new)) }
     // The same holds for a turn of a server, as the contracts of `run_turn` and `Server::turn`

@@ -17,7 +17,7 @@ use Rattle.file_server.specs.Sessions.{Serving, serving_at}
 use Rattle.file_server.specs.Slots.{EndsNothing, EndsNothingAt, IsIdle, close_at, close_for, release_at, release_by}
 use Rattle.file_server.specs.declared.serve_mode.ServeMode.{ServeMode}
 use Rattle.file_server.specs.declared.serve_mode.ServeMode.TheVariants.{Burst, Once}
-use Rattle.file_server.specs.Waiting.{serves_by, serves_within}
+use Rattle.file_server.specs.Waiting.{serves_by}
 
 -- The slots from one place to another are free.
 abbrev pub AreFree : HostView → ℕ → ℕ → Type 0
@@ -62,46 +62,12 @@ ends_to silence now sessions h m (suc n) within free none =
 
 -- ---- what can be served
 
-pub serves_to : (h : HostView) (m n : ℕ) → m ≤ n → AreFree h m n → serves_within n h ≡ serves_within m h
-serves_to h m zero within free =
-    let same : 0 ≡ m = omega arith in ap (λ (k : ℕ). serves_within k h) same
-serves_to h m (suc n) within free =
-    elim (cases_lt n m) as (λ _. serves_within (suc n) h ≡ serves_within m h) [
-      | inl all ↦ let same : suc n ≡ m = omega arith in ap (λ (k : ℕ). serves_within k h) same
-      | inr less ↦
-          let below : n < suc n = omega arith in
-          ap (λ (o : Option ℕ). if serves_within n h then true else serves_by h o)
-          (id_of_free h n (free n less below))
-          ∙ (or_none (serves_within n h) ∙ serves_to h m n less (less_free h m n free))
-    ]
-  where
-    or_none : (b : Bool) → (if b then true else false) ≡ b
-    or_none true = refl
-    or_none false = refl
+serves_none : (h : HostView) (o : Option ℕ) → o ≡ None → serves_by h o ≡ false
+serves_none h o none = rw none refl
 
--- what can be served among the first slots can be among more
-pub serves_on : (h : HostView) (m n : ℕ) → m ≤ n → serves_within m h ≡ true → serves_within n h ≡ true
-serves_on h m zero within found =
-    let same : 0 ≡ m = omega arith in ap (λ (k : ℕ). serves_within k h) same ∙ found
-serves_on h m (suc n) within found =
-    elim (cases_lt n m) as (λ _. serves_within (suc n) h ≡ true) [
-      | inl all ↦ let same : suc n ≡ m = omega arith in ap (λ (k : ℕ). serves_within k h) same ∙ found
-      | inr less ↦ rw (serves_on h m n less found) refl
-    ]
-
--- the slot at a place has something to serve
-pub serves_here : (h : HostView) (place : ℕ) → serves_by h (id_at h place) ≡ true
-    → serves_within (suc place) h ≡ true
-serves_here h place found = either (serves_within place h) (serves_by h (id_at h place)) found
-  where
-    either : (b c : Bool) → c ≡ true → (if b then true else c) ≡ true
-    either true c e = refl
-    either false c e = e
-
--- nor does it, and no slot before it
-pub serves_none : (h : HostView) (place : ℕ) → serves_within place h ≡ false → serves_by h (id_at h place) ≡ false
-    → serves_within (suc place) h ≡ false
-serves_none h place before here = rw before here
+-- a free slot has nothing to serve
+pub serves_free : (h : HostView) (place : ℕ) → is_used_at h.slots place ≡ false → serves_by h (id_at h place) ≡ false
+serves_free h place free = serves_none h (id_at h place) (id_of_free h place free)
 
 -- ---- serving
 

@@ -17,13 +17,13 @@ use Rattle.chaos_link.proofs.Asked.{asks_none}
 use Rattle.chaos_node.specs.Link.{has_packets, read_all, sent_by}
 use Rattle.chaos_node.specs.InTurn.{TurnDoes, station_of}
 use Rattle.chaos_node.specs.Phase.{DoesPhase, Effect, and_then, effect_of, no_effect_on, over_slots}
-use Rattle.chaos_node.specs.Slots.{tick_at}
 use Rattle.chaos_node.specs.Station.{Station}
+use Rattle.chaos_node.specs.Timer.{tick_by}
 use Rattle.chaos_node.specs.declared.turn.Turn.{Turn}
 use Rattle.chaos_node.proofs.InTurn.{then_all_slots, then_does}
 use Rattle.chaos_node.proofs.Queue.{or_false, sends_nothing}
 use Rattle.file_server.specs.Sessions.{Serving, serving_at}
-use Rattle.file_server.specs.Slots.{EndsNothing, EndsNothingAt, IsIdle, close_at, end_phases, is_late, is_over, is_over_in, release_at}
+use Rattle.file_server.specs.Slots.{EndsNothing, EndsNothingAt, IsIdle, Options, close_at, end_phases, is_late, is_over, is_over_in, release_at}
 
 none_sent : (carriage : Carriage) (lots : List (List PacketView)) → has_packets lots ≡ false → sent_by carriage lots ≡ []
 none_sent carriage [] e = refl
@@ -118,14 +118,14 @@ module _ {L : Type 0} {G : Ghosts L} where
       (releases_nothing silence sessions a n none.0) (idle_turn a (release_at n a.host.now) none.1.1) refl
 
   -- the ticks alone are the last phases
-  pub ticks_alone : (silence : Option ℕ) (sessions : List Serving) (a b : Turn L G) (sent : Bool)
-      → EndsNothing silence a.now sessions a.host.now (length a.host.now.slots)
-      → TurnDoes a b (over_slots (tick_at a.now) (length a.host.now.slots) a.host.now) sent
-      → TurnDoes a b (end_phases silence sessions a.now a.host.now) sent
-  ticks_alone silence sessions a b sent none ticked =
+  pub ticks_alone : (options : Options) (sessions : List Serving) (a b : Turn L G) (sent : Bool)
+      → EndsNothing options.silence a.now sessions a.host.now (length a.host.now.slots)
+      → TurnDoes a b (over_slots (tick_by options.timers a.now) (length a.host.now.slots) a.host.now) sent
+      → TurnDoes a b (end_phases options sessions a.now a.host.now) sent
+  ticks_alone options sessions a b sent none ticked =
       let slots = length a.host.now.slots in
-      let first = over_slots (close_at silence a.now sessions) slots a.host.now in
-      then_all_slots a a b (and_then first (over_slots release_at slots)) tick_at false sent sent
+      let first = over_slots (close_at options.silence a.now sessions) slots a.host.now in
+      then_all_slots a a b (and_then first (over_slots release_at slots)) (tick_by options.timers) false sent sent
       (then_all_slots a a a first (λ (now : ℕ). release_at) false false false
-      (closes_nothing silence sessions a slots none) (releases_nothing silence sessions a slots none) refl)
+      (closes_nothing options.silence sessions a slots none) (releases_nothing options.silence sessions a slots none) refl)
       ticked (sym (or_false sent))

@@ -26,7 +26,7 @@ use Rattle.file_server.specs.InTurn.{ServerTurnDoes, server_in}
 use Rattle.file_server.specs.Serve.{ServerDoes, ServesSlotBy, ServesSlotsBy, Uses}
 use Rattle.file_server.specs.Server.{Server, after_giving_back, with_host}
 use Rattle.file_server.specs.Sessions.{Serving, new_serving, serving_at, serving_of}
-use Rattle.file_server.specs.Slots.{end_phases}
+use Rattle.file_server.specs.Slots.{Options, end_phases}
 use Rattle.file_server.specs.Turn.{IsTurnBy}
 use Rattle.file_server.specs.declared.serve_mode.ServeMode.{ServeMode}
 use Rattle.file_server.proofs.Passed.{passed_so}
@@ -133,19 +133,19 @@ module _ {L S : Type 0} {G : Ghosts L} (uses : Uses S) where
       ) refl
 
   -- what came was taken, each slot was served, and the last phases were made; the files were given back
-  pub turn_taken : (mode : ServeMode) (silence : Option ℕ) (came : Arrival) (start : ℕ) (a b c d : Turn L G) (xs ys zs : List Serving)
+  pub turn_taken : (mode : ServeMode) (options : Options) (came : Arrival) (start : ℕ) (a b c d : Turn L G) (xs ys zs : List Serving)
       (s t : S) (x y z all : Bool)
       → TurnDoes a b (arrive_at_server came start a.now a.host.now) x
       → ServerTurnDoes b c (ServesSlotsBy uses mode b.now (length b.host.now.slots)) xs ys s t y
-      → TurnDoes c d (end_phases silence ys c.now c.host.now) z
+      → TurnDoes c d (end_phases options ys c.now c.host.now) z
       → (server_in d zs t).node ≡ after_giving_back (with_host (server_in c ys t).node d.host.now)
       → all ≡ (if x then true else (if y then true else z))
-      → ServerTurnDoes a d (IsTurnBy uses mode silence came start a.now) xs zs s t all
-  turn_taken mode silence came start a b c d xs ys zs s t x y z all one two three given e =
+      → ServerTurnDoes a d (IsTurnBy uses mode options came start a.now) xs zs s t all
+  turn_taken mode options came start a b c d xs ys zs s t x y z all one two three given e =
       let same = same_twice a b c one.1 two.1 in (
-        turn_so uses a.carriage mode silence came start a.now (server_in a xs s) (server_in b xs s) (server_in c ys t)
+        turn_so uses a.carriage mode options came start a.now (server_in a xs s) (server_in b xs s) (server_in c ys t)
             (server_in d zs t) x y z all refl given one.0
             (serves_still a b c (λ (now : ℕ). ServesSlotsBy uses mode now (length b.host.now.slots)) xs ys s t y one.1 two)
-            (still a c d (λ (now : ℕ). end_phases silence ys now c.host.now) z same three) e,
+            (still a c d (λ (now : ℕ). end_phases options ys now c.host.now) z same three) e,
         same_twice a c d same three.1,
       )

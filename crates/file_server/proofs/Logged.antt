@@ -24,6 +24,7 @@ use Rattle.file_server.specs.Logged.{Logged, LogsTurn, after_arrival, logged_mad
 use Rattle.file_server.specs.Serve.{IsServedAt, ServesMode, ServesModeBy, ServesPlace, ServesPlaceBy, ServesSlots, ServesSlotsBy, ServesTimes, ServesTimesBy, SessionServesBy, SlotDoes, serving_after}
 use Rattle.file_server.specs.Server.{Server, server, with_host}
 use Rattle.file_server.specs.Sessions.{Serving, serving_at, serving_of}
+use Rattle.file_server.specs.Slots.{Options}
 use Rattle.file_server.specs.Turn.{IsTurn, IsTurnBy, RunsTurn, RunsTurnBy}
 use Rattle.file_server.specs.Watch.{Event, peer_at}
 use Rattle.file_server.specs.declared.serve_mode.ServeMode.{ServeMode}
@@ -129,11 +130,11 @@ module _ {S : Type 0} (changes : S → S → StoreChange) where
     done.5,
   )
 
-  turn_plain : (mode : ServeMode) (silence : Option ℕ) (came : Arrival) (start now : ℕ) (s t : Server (Logged S))
+  turn_plain : (mode : ServeMode) (options : Options) (came : Arrival) (start now : ℕ) (s t : Server (Logged S))
       (lots : List (List PacketView))
-      → IsTurnBy (logged_uses changes) mode silence came start now s t lots
-      → IsTurn changes mode silence came start now (plain s) (plain t) lots
-  turn_plain mode silence came start now s t lots is = record {
+      → IsTurnBy (logged_uses changes) mode options came start now s t lots
+      → IsTurn changes mode options came start now (plain s) (plain t) lots
+  turn_plain mode options came start now s t lots is = record {
     served = plain is.served;
     replies = is.replies;
     serves =
@@ -142,29 +143,29 @@ module _ {S : Type 0} (changes : S → S → StoreChange) where
     out = is.out;
   }
 
-  pub runs_plain : (mode : ServeMode) (silence : Option ℕ) (asked : List Ask → Type 0) (waits : Bool) (carriage : Carriage) (start now : ℕ)
+  pub runs_plain : (mode : ServeMode) (options : Options) (asked : List Ask → Type 0) (waits : Bool) (carriage : Carriage) (start now : ℕ)
       (before after : Station (Server (Logged S))) (result : TurnEnd)
-      → RunsTurnBy (logged_uses changes) mode silence asked waits carriage start now before after result
-      → RunsTurn changes mode silence asked waits carriage start now
+      → RunsTurnBy (logged_uses changes) mode options asked waits carriage start now before after result
+      → RunsTurn changes mode options asked waits carriage start now
       (station (plain before.node) before.queue before.outbox) (station (plain after.node) after.queue after.outbox)
       result
-  runs_plain mode silence asked waits carriage start now before after result is = record {
+  runs_plain mode options asked waits carriage start now before after result is = record {
     came = is.came;
     lots = is.lots;
-    turn = turn_plain mode silence is.came start now before.node after.node is.lots is.turn;
+    turn = turn_plain mode options is.came start now before.node after.node is.lots is.turn;
     link = record { queue = is.link.queue; asks = is.link.asks; read = is.link.read; work = is.link.work };
   }
 
-  pub logs_plain : (mode : ServeMode) (silence : Option ℕ) (reported : List Ask → LinkReport → Type 0) (asked : List Ask → Type 0) (waits : Bool) (carriage : Carriage) (start now : ℕ)
+  pub logs_plain : (mode : ServeMode) (options : Options) (reported : List Ask → LinkReport → Type 0) (asked : List Ask → Type 0) (waits : Bool) (carriage : Carriage) (start now : ℕ)
       (before after : Station (Server (Logged S))) (result : TurnEnd)
-      → LogsTurn changes mode silence reported asked waits carriage start now before after result
-      → RunsTurn changes mode silence asked waits carriage start now
+      → LogsTurn changes mode options reported asked waits carriage start now before after result
+      → RunsTurn changes mode options asked waits carriage start now
       (station (plain before.node) before.queue before.outbox) (station (plain after.node) after.queue after.outbox)
       result
-  logs_plain mode silence reported asked waits carriage start now before after result is = record {
+  logs_plain mode options reported asked waits carriage start now before after result is = record {
     came = is.came;
     lots = is.lots;
     turn =
-        turn_plain mode silence is.came start now (after_arrival is.came is.report before.node) after.node is.lots is.turn;
+        turn_plain mode options is.came start now (after_arrival is.came is.report before.node) after.node is.lots is.turn;
     link = record { queue = is.link.queue; asks = is.link.asks; read = is.link.read; work = is.link.work };
   }

@@ -1,6 +1,6 @@
 -- Turns of a service, one after another, each at the moment that was read for it.
 use Rattle.std.proofs.Common.{true, ◌≡◌, ◌∙◌, ◌≤◌, ℕ, ◌+◌, List, [], ◌∷◌, ◌++◌, length, refl, ap, subst, sym}
-use Rattle.std.specs.Prelude.{Option, Some, Result, Ok, Err}
+use Rattle.std.specs.Prelude.{Option, Result, Ok, Err}
 use Rattle.std.specs.Result.{IsErr}
 use Rattle.std.proofs.lemmas.List.{append_assoc, append-nil, length-append}
 use Rattle.chaos_conn.specs.Config.{ConfigView}
@@ -9,16 +9,14 @@ use Rattle.chaos_link.specs.Link.{Ask, AskedSince, Asks, QueueView}
 use Rattle.chaos_link.proofs.Asked.{asks_both, asks_none}
 use Rattle.chaos_link.specs.declared.carriage.Carriage.{Carriage}
 use Rattle.chaos_node.specs.Link.{turn_asks}
-use Rattle.chaos_node.specs.Station.{Station}
 use Rattle.chaos_node.specs.declared.end.TurnEnd.{TurnEnd}
 use Rattle.chaos_node.specs.Moments.{Readings, Reads}
 use Rattle.chaos_node.proofs.Reading.{reads_none, reads_then}
 use Rattle.chaos_node.specs.declared.fault.NodeFault.{NodeFault}
+use Rattle.chaos_node.specs.declared.timer.Interval.{Interval}
 use Rattle.file_server.specs.Serve.{mode_of}
-use Rattle.file_server.specs.Server.{Server}
-use Rattle.file_server.specs.Service.{MadeTurns, MakesTurns, ServesBy, ServesTurn, new_service}
+use Rattle.file_server.specs.Service.{HaveLooked, MadeTurns, MakesTurns, ServesBy, ServesTurn, TimedService, new_timed, service_options}
 use Rattle.file_server.specs.Turn.{RunsTurn}
-use Rattle.file_server.specs.declared.limits.TheConstants.{SILENT_MILLIS}
 use Rattle.file_server.specs.Waiting.{waits}
 
 -- a run that ends by a fault
@@ -86,18 +84,21 @@ module _ {X : Type 0} (turn : ℕ → List Ask → X → X → Type 0) where
   )
 
 module _ {S : Type 0} (changes : S → S → StoreChange) (carriage : Carriage) (starts : ℕ → ℕ) where
-  abbrev pub HasServed : (List ℕ → Type 0) → (List Ask → Type 0) → ℕ → Station (Server S) → Station (Server S) → Type 0
+  abbrev pub HasServed : (List ℕ → Type 0) → (List Ask → Type 0) → ℕ → TimedService S → TimedService S → Type 0
   HasServed = HasMade (ServesTurn changes carriage starts)
 
   -- a turn told without its link: what it asked
-  pub serves_turn : {asked : List Ask → Type 0} (now : ℕ) (before after : Station (Server S)) (end : TurnEnd)
-      → RunsTurn changes (mode_of carriage) (Some SILENT_MILLIS) asked (waits true before.node.host) carriage (starts now) now before after end
+  pub serves_turn : {asked : List Ask → Type 0} (now : ℕ) (before after : TimedService S) (end : TurnEnd)
+      → HaveLooked now before.station.node.host before.timers after.timers
+      → RunsTurn changes (mode_of carriage) (service_options after.timers) asked (waits after.timers now true before.station.node.host) carriage
+      (starts now) now before.station after.station end
       → (asks : List Ask) × asked asks × ServesTurn changes carriage starts now asks before after
-  serves_turn now before after end done = (
-    turn_asks carriage (waits true before.node.host) before.outbox.packets done.lots,
+  serves_turn now before after end timed done = (
+    turn_asks carriage (waits after.timers now true before.station.node.host) before.station.outbox.packets done.lots,
     done.link.asks,
     record {
       end = end;
+      timed = timed;
       turn = record {
         came = done.came;
         lots = done.lots;
@@ -109,22 +110,31 @@ module _ {S : Type 0} (changes : S → S → StoreChange) (carriage : Carriage) 
 
   -- a moment was read, and a turn made at it
   pub served_next : {M L : Type 0} (ra rb rc : Readings M) (aa ab ac : AskedSince L Ask) (turns start now : ℕ)
-      (by : Carriage) (first before after : Station (Server S)) (end : TurnEnd)
+      (by : Carriage) (first before after : TimedService S) (end : TurnEnd)
       → HasServed (Reads ra rb) (Asks aa ab) turns first before → Reads rb rc (now ∷ []) → by ≡ carriage
-      → start ≡ starts now
-      → RunsTurn changes (mode_of by) (Some SILENT_MILLIS) (Asks ab ac) (waits true before.node.host) by start now before after end
+      → start ≡ starts now → HaveLooked now before.station.node.host before.timers after.timers
+      → RunsTurn changes (mode_of by) (service_options after.timers) (Asks ab ac) (waits after.timers now true before.station.node.host) by start
+      now before.station after.station end
       → HasServed (Reads ra rc) (Asks aa ac) (turns + 1) first after
-  served_next ra rb rc aa ab ac turns start now by first before after end has more same from done =
-      let wait = waits true before.node.host in
+  served_next ra rb rc aa ab ac turns start now by first before after end has more same from timed done =
+      let wait = waits after.timers now true before.station.node.host in
+      let options = service_options after.timers in
       made_next (ServesTurn changes carriage starts) ra rb rc aa ab ac turns now first before after has more
-      (serves_turn {asked = Asks ab ac} now before after end
-      (subst (λ (k : Carriage). RunsTurn changes (mode_of k) (Some SILENT_MILLIS) (Asks ab ac) wait k (starts now) now before after end) same
-      (subst (λ (n : ℕ). RunsTurn changes (mode_of by) (Some SILENT_MILLIS) (Asks ab ac) wait by n now before after end) from done)))
+      (serves_turn {asked = Asks ab ac} now before after end timed
+      (subst
+      (λ (k : Carriage). RunsTurn changes (mode_of k) options (Asks ab ac) wait k (starts now) now before.station after.station end)
+      same
+      (subst
+      (λ (n : ℕ). RunsTurn changes (mode_of by) options (Asks ab ac) wait by n now before.station after.station end) from
+      done)))
 
   -- so has the run
   pub served_by : {A : Type 0} (read : List ℕ → Type 0) (asked : List Ask → Type 0) (config : ConfigView)
-      (turns address passed made : ℕ) (store : S) (queue : Option QueueView) (last : Station (Server S)) (end : Result A NodeFault)
-      → HasServed read asked made (new_service config address passed store queue) last → MadeTurns end turns made
-      → ServesBy changes carriage read asked starts config turns address passed store last.node.store queue last.queue end
-  served_by read asked config turns address passed made store queue last end (moments, asks, was, were, count, turned) ends =
+      (interval : Interval) (turns address passed made : ℕ) (store : S) (queue : Option QueueView) (last : TimedService S)
+      (end : Result A NodeFault)
+      → HasServed read asked made (new_timed config interval address passed store queue) last → MadeTurns end turns made
+      → ServesBy changes carriage read asked starts config interval turns address passed store last.station.node.store queue
+      last.station.queue end
+  served_by read asked config interval turns address passed made store queue last end
+      (moments, asks, was, were, count, turned) ends =
       (moments, asks, was, were, subst (MadeTurns end turns) (sym count) ends, (last, turned, refl, refl))

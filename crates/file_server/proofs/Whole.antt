@@ -14,7 +14,7 @@ use Rattle.file_server.specs.Arrive.{arrive_at_server}
 use Rattle.file_server.specs.Serve.{ServerDoes, ServesSlotsBy, Uses}
 use Rattle.file_server.specs.Server.{Server, after_giving_back, with_host}
 use Rattle.file_server.specs.Sessions.{Serving, serving_at, without_files}
-use Rattle.file_server.specs.Slots.{end_phases, given_back, given_back_at}
+use Rattle.file_server.specs.Slots.{Options, end_phases, given_back, given_back_at}
 use Rattle.file_server.specs.Turn.{IsTurnBy}
 use Rattle.file_server.specs.declared.serve_mode.ServeMode.{ServeMode}
 
@@ -34,16 +34,16 @@ as_many h (suc n) sessions = as_many_at (id_at h n) n (given_back h n sessions) 
 
 module _ {S : Type 0} (uses : Uses S) where
   -- what came, then each slot served, then the last phases, and the files of those without a connection given back
-  pub turn_so : {L : Type 0} {aa ab ac ad : AskedSince L Ask} (carriage : Carriage) (mode : ServeMode) (silence : Option ℕ) (came : Arrival) (start now : ℕ) (a b c d : Station (Server S)) (x y z all : Bool)
+  pub turn_so : {L : Type 0} {aa ab ac ad : AskedSince L Ask} (carriage : Carriage) (mode : ServeMode) (options : Options) (came : Arrival) (start now : ℕ) (a b c d : Station (Server S)) (x y z all : Bool)
       → b.node ≡ with_host a.node b.node.host → d.node ≡ after_giving_back (with_host c.node d.node.host)
       → DoesPhase (Asks aa ab) carriage (arrive_at_server came start now a.node.host) (host_at a) (host_at b) x
       → ServerDoes (Asks ab ac) carriage (ServesSlotsBy uses mode now (length b.node.host.slots)) b c y
-      → DoesPhase (Asks ac ad) carriage (end_phases silence c.node.sessions now c.node.host) (host_at c) (host_at d) z
+      → DoesPhase (Asks ac ad) carriage (end_phases options c.node.sessions now c.node.host) (host_at c) (host_at d) z
       → all ≡ (if x then true else (if y then true else z))
-      → ServerDoes (Asks aa ad) carriage (IsTurnBy uses mode silence came start now) a d all
-  turn_so carriage mode silence came start now a b c d x y z all same same' one two three e =
+      → ServerDoes (Asks aa ad) carriage (IsTurnBy uses mode options came start now) a d all
+  turn_so carriage mode options came start now a b c d x y z all same same' one two three e =
       let first = arrive_at_server came start now a.node.host in
-      let last = end_phases silence c.node.sessions now c.node.host in
+      let last = end_phases options c.node.sessions now c.node.host in
       let arrived : b.node ≡ with_host a.node first.host = same ∙ ap (with_host a.node) one.host in
       let each : ServesSlotsBy uses mode now (length a.node.host.slots) (with_host a.node first.host) c.node two.lots
       = subst (λ (n : ℕ). ServesSlotsBy uses mode now n (with_host a.node first.host) c.node two.lots) one.size

@@ -10,6 +10,12 @@ use Rattle.chaos_node.specs.declared.turn.Turn.{Turn}
 use Rattle.file_server.specs.Serve.{ServerDoes}
 use Rattle.file_server.specs.Server.{Server, server}
 use Rattle.file_server.specs.Sessions.{Serving, serving_at}
+use Rattle.file_server.specs.Slots.{Options}
+use Rattle.file_server.specs.declared.turn_input.TurnInput.{TurnInput}
+
+-- what a turn with this input has
+abbrev pub options_of : TurnInput → Options
+options_of input = record { silence = input.silence; timers = input.timers.now }
 
 module _ {L S : Type 0} {G : Ghosts L} where
   -- the server of a turn at its link: the turn's host, and the server's sessions and store

@@ -16,6 +16,7 @@ use Rattle.chaos_node.specs.Turn.{GoesOver}
 use Rattle.chaos_node.specs.declared.end.TurnEnd.{TurnEnd}
 use Rattle.file_server.specs.Serve.{Use, Uses}
 use Rattle.file_server.specs.Server.{Server}
+use Rattle.file_server.specs.Slots.{Options}
 use Rattle.file_server.specs.Turn.{IsTurnBy}
 use Rattle.file_server.specs.declared.serve_mode.ServeMode.{ServeMode}
 use Rattle.file_server.specs.Watch.{Event, logged_changed, logged_heard, peer_at}
@@ -68,7 +69,7 @@ IsReadOf {L} reads asked asks report = (link : L) × asked link asks × (report 
 -- send what waited and then once to receive, by `reported`. First it was logged which host's datagram came, and from
 -- where by the link's report. Then it was logged what each command that was served changed, in the order in which they were
 -- served: with the peer of the connection whose command it was.
-pub record LogsTurn {S : Type 0} (changes : S → S → StoreChange) (mode : ServeMode) (silence : Option ℕ)
+pub record LogsTurn {S : Type 0} (changes : S → S → StoreChange) (mode : ServeMode) (options : Options)
     (reported : List Ask → LinkReport → Type 0) (asked : List Ask → Type 0)
     (waits : Bool) (carriage : Carriage) (start now : ℕ) (before after : Station (Server (Logged S)))
     (result : TurnEnd) : Type 0 where
@@ -76,5 +77,5 @@ pub record LogsTurn {S : Type 0} (changes : S → S → StoreChange) (mode : Ser
   pub report : LinkReport
   pub read : reported (turn_asks carriage waits before.outbox.packets []) report
   pub lots : List (List PacketView)
-  pub turn : IsTurnBy (logged_uses changes) mode silence came start now (after_arrival came report before.node) after.node lots
+  pub turn : IsTurnBy (logged_uses changes) mode options came start now (after_arrival came report before.node) after.node lots
   pub link : GoesOver asked waits carriage came lots before after result

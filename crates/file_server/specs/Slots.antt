@@ -9,7 +9,8 @@ use Rattle.chaos_host.specs.Calls.{host_end, host_release}
 use Rattle.chaos_host.specs.View.{HostView, id_at}
 use Rattle.chaos_node.specs.Link.{has_packets}
 use Rattle.chaos_node.specs.Phase.{Effect, no_effect_on, effect_of, and_then, over_slots}
-use Rattle.chaos_node.specs.Slots.{tick_at}
+use Rattle.chaos_node.specs.Timer.{tick_by}
+use Rattle.chaos_node.specs.declared.timer.RetransmitTimer.{RetransmitTimer}
 use Rattle.file_server.specs.Sessions.{Serving, serving_at, without_files}
 
 -- A peer that stays silent has so many milliseconds since a moment to acknowledge something, or all the time. They are over.
@@ -77,8 +78,19 @@ given_back h (suc n) sessions = given_back_at (id_at h n) n (given_back h n sess
 
 -- ---- the last phases of a turn, each over all slots
 
-abbrev pub end_phases : Option ℕ → List Serving → ℕ → HostView → Effect
-end_phases silence sessions now h =
+-- What a turn has beside the definition of `run_turn`: the milliseconds for which it serves a peer that acknowledges nothing,
+-- and a timer for each slot. A timer may hold the tick of its slot back.
+pub record Options : Type 0 where
+  pub silence : Option ℕ
+  pub timers : List RetransmitTimer
+
+-- `run_turn` serves such a peer as long as it is heard, and ticks each slot.
+abbrev pub no_options : Options
+no_options = record { silence = None; timers = [] }
+
+abbrev pub end_phases : Options → List Serving → ℕ → HostView → Effect
+end_phases options sessions now h =
     and_then
-    (and_then (over_slots (close_at silence now sessions) (length h.slots) h) (over_slots release_at (length h.slots)))
-    (over_slots (tick_at now) (length h.slots))
+    (and_then (over_slots (close_at options.silence now sessions) (length h.slots) h)
+    (over_slots release_at (length h.slots)))
+    (over_slots (tick_by options.timers now) (length h.slots))

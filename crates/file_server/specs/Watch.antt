@@ -1,5 +1,5 @@
 -- Which connections opened and ended between the looks at a server.
-use Rattle.std.specs.Prelude.{ℕ, zero, suc, ◌==◌, Bool, true, false, if◌then◌else◌, List, [], ◌∷◌, ◌++◌, Option, Some, None, option_map, Result, Ok, Err, slice_index_or, slice_set}
+use Rattle.std.specs.Prelude.{ℕ, zero, suc, ◌==◌, Bool, true, false, if◌then◌else◌, List, [], ◌∷◌, ◌++◌, Option, Some, None, option_map, Result, Ok, Err, slice_get, slice_index_or, slice_set}
 use Rattle.std.specs.declared.net.socket_addr.SocketAddrV4.{SocketAddrV4}
 use Rattle.chaos_file.specs.declared.change.Change.{Change}
 use Rattle.chaos_link.specs.declared.report.LinkReport.{LinkReport}
@@ -11,17 +11,18 @@ use Rattle.chaos_conn.specs.declared.state.State.{State}
 use Rattle.chaos_conn.specs.declared.state.State.TheVariants as state
 use Rattle.chaos_host.specs.declared.fault.CallFault.{CallFault}
 use Rattle.chaos_host.specs.View.{HostView, host_look, id_at}
+use Rattle.chaos_node.specs.declared.timer.RetransmitTimer.{RetransmitTimer}
 use Rattle.file_server.specs.Sessions.{Serving, serving_at}
 use Rattle.file_server.specs.declared.log.Ending.{Ending}
 use Rattle.file_server.specs.declared.log.Ending.TheVariants.{Done, HostDown, Unacknowledged, Closed}
 use Rattle.file_server.specs.declared.watch.Seen.{Seen}
 
--- What a log has: the peer of a connection that opened. Of a connection that ended, also the name that its user gave, and
--- why it ended. Of a connection whose command changed a file or was refused, that name and the change. The host whose
+-- What a log has: the peer of a connection that opened. Of a connection that ended, also the name that its user gave, how
+-- often kept items were sent again, and why it ended. Of a connection whose command changed a file or was refused, that name and the change. The host whose
 -- datagram came, and from which UDP address; and which call of a socket failed, and why.
 pub data Event : Type 0 where
   Opened : (peer : End) → Event
-  Ended : (peer : End) → (login : Option (List ℕ)) → (ending : Ending) → Event
+  Ended : (peer : End) → (login : Option (List ℕ)) → (resent : ℕ) → (ending : Ending) → Event
   Changed : (peer : End) → (login : Option (List ℕ)) → (change : Change) → Event
   Heard : (address : ℕ) → (from : SocketAddrV4) → Event
   Failed : (fault : SocketFault) → Event
@@ -32,8 +33,8 @@ logged_with event logged = option_map (λ events. events ++ event ∷ []) logged
 abbrev pub logged_opened : End → Option (List Event) → Option (List Event)
 logged_opened peer logged = logged_with (Opened peer) logged
 
-abbrev pub logged_ended : End → Option (List ℕ) → Ending → Option (List Event) → Option (List Event)
-logged_ended peer login ending logged = logged_with (Ended peer login ending) logged
+abbrev pub logged_ended : End → Option (List ℕ) → ℕ → Ending → Option (List Event) → Option (List Event)
+logged_ended peer login resent ending logged = logged_with (Ended peer login resent ending) logged
 
 abbrev pub logged_changed : End → Option (List ℕ) → Change → Option (List Event) → Option (List Event)
 logged_changed peer login change logged = logged_with (Changed peer login change) logged
@@ -104,9 +105,19 @@ ending_of false false false = Closed
 abbrev pub ending_in : Seen → Serving → Ending
 ending_in was serving = ending_of was.is_down serving.eof was.is_unacknowledged
 
-abbrev pub after_end : Option Seen → Serving → Option (List Event) → Option (List Event)
-after_end None serving logged = logged
-after_end (Some was) serving logged = logged_ended was.peer serving.session.name (ending_in was serving) logged
+-- how often the timer of this connection saw that kept items were sent again
+abbrev pub resent_of : ℕ → ℕ → Option ℕ → ℕ
+resent_of id count None = 0
+resent_of id count (Some seen) = if seen == id then count else 0
+
+abbrev pub resent_by : ℕ → Option RetransmitTimer → ℕ
+resent_by id None = 0
+resent_by id (Some t) = resent_of id t.retransmissions t.id
+
+abbrev pub after_end : Option Seen → Serving → Option RetransmitTimer → Option (List Event) → Option (List Event)
+after_end None serving timer logged = logged
+after_end (Some was) serving timer logged =
+    logged_ended was.peer serving.session.name (resent_by was.id timer) (ending_in was serving) logged
 
 abbrev pub after_opening : Option Seen → Option (List Event) → Option (List Event)
 after_opening None logged = logged
@@ -117,9 +128,10 @@ is_same None None = true
 is_same (Some was) (Some there) = was.id == there.id
 is_same _ _ = false
 
-abbrev pub after_change : Option Seen → Option Seen → Serving → Option (List Event) → Option (List Event)
-after_change was there serving logged =
-    if is_same was there then logged else after_opening there (after_end was serving logged)
+abbrev pub after_change : Option Seen → Option Seen → Serving → Option RetransmitTimer → Option (List Event)
+    → Option (List Event)
+after_change was there serving timer logged =
+    if is_same was there then logged else after_opening there (after_end was serving timer logged)
 
 -- ---- a look at each slot
 
@@ -131,13 +143,15 @@ pub record Watched : Type 0 where
 abbrev pub watched : List (Option Seen) → Option (List Event) → Watched
 watched seen logged = record { seen = seen; logged = logged }
 
-abbrev pub watched_at : HostView → List Serving → ℕ → Watched → Watched
-watched_at h sessions place w = record {
+abbrev pub watched_at : List RetransmitTimer → HostView → List Serving → ℕ → Watched → Watched
+watched_at ts h sessions place w = record {
   seen = slice_set w.seen place (seen_at h place);
-  logged = after_change (slice_index_or w.seen place None) (seen_at h place) (serving_at sessions place) w.logged;
+  logged =
+      after_change (slice_index_or w.seen place None) (seen_at h place) (serving_at sessions place) (slice_get ts place)
+      w.logged;
 }
 
 -- the first so many slots, in rising order
-abbrev pub watched_slots : HostView → List Serving → ℕ → Watched → Watched
-watched_slots h sessions zero w = w
-watched_slots h sessions (suc n) w = watched_at h sessions n (watched_slots h sessions n w)
+abbrev pub watched_slots : List RetransmitTimer → HostView → List Serving → ℕ → Watched → Watched
+watched_slots ts h sessions zero w = w
+watched_slots ts h sessions (suc n) w = watched_at ts h sessions n (watched_slots ts h sessions n w)

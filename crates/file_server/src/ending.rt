@@ -5,33 +5,35 @@ ghost use Rattle.std.specs.Prelude.{◌≡◌, ◌<◌, false, length};
 ghost use Rattle.chaos_conn.specs.State.{is_ended};
 ghost use Rattle.chaos_node.specs.InTurn.{TurnDoes};
 ghost use Rattle.chaos_node.specs.Phase.{over_slots};
+ghost use Rattle.file_server.specs.InTurn.{options_of};
 ghost use Rattle.file_server.specs.Sessions.{serving_at};
 ghost use Rattle.file_server.specs.Slots.{EndsNothing, close_at, end_phases, is_late, is_over, release_at};
 
 use crate::sessions::Sessions;
+use crate::turn_input::TurnInput;
 use chaos_conn::Conn;
 use chaos_host::Host;
 use chaos_link::Link;
 use chaos_node::{Turn, any_of, send_all};
 
 /// The last phases of a turn: connections that are over are closed, those that ended are released,
-/// and what is due in each slot is done.
+/// and what is due is done in each slot whose timer doesn't hold that back.
 pub(crate) fn end_slots<L: Link>(
     turn: &mut Turn<'_, L>,
     sessions: &Sessions,
-    silence: Option<u64>,
+    input: &TurnInput<'_>,
 ) -> bool
     requires alike { length sessions.now ≡ length turn.old.host.now.slots }
     ensures { TurnDoes turn.old turn.new
-        (end_phases silence sessions.now turn.old.now turn.old.host.now) result }
+        (end_phases (options_of input.now) sessions.now turn.old.now turn.old.host.now) result }
 {
     // Most turns: one look at each slot shows that nothing ends.
-    if !may_any_end(turn.host, sessions, silence, turn.now) {
-        return turn.tick_slots();
+    if !may_any_end(turn.host, sessions, input.silence, turn.now) {
+        return turn.tick_slots(input.timers);
     }
-    let closed = close_slots(turn, sessions, silence);
+    let closed = close_slots(turn, sessions, input.silence);
     let released = release_slots(turn);
-    let ticked = turn.tick_slots();
+    let ticked = turn.tick_slots(input.timers);
     any_of(ticked, released, closed)
 }
 

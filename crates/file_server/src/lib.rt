@@ -2,8 +2,8 @@
 //! service.
 //!
 //! [`run_turn`] is one turn: what came is delivered, requests for FILE are accepted, each slot is
-//! served once, and what is due is done. [`Server`] has what a service needs for such turns, and by
-//! carriage 2 serves each slot in a burst ([`ServeMode`]).
+//! served once, and what is due is done. [`Server`] has what a service needs for such turns, and a
+//! timer for each slot. By carriage 2 it serves each slot in a burst ([`ServeMode`]).
 //! [`run_serve_by`] makes each turn at the next moment of a source, and notes in a [`Log`] which
 //! connections opened and ended.
 //!

@@ -31,13 +31,15 @@ pub trait Log {
         // The log holds the opening, with its peer, behind all that it held before.
         ensures { logged self.new ≡ logged_opened peer (logged self.old) };
 
-    /// The connection to this peer has ended. `login` is the name that its user gave, if any, and
-    /// `commands` is how many commands were replied to.
-    fn ended(&mut self, peer: End, login: Option<&[u8]>, commands: u64, ending: Ending)
+    /// The connection to this peer has ended. `login` is the name that its user gave, if any,
+    /// `commands` is how many commands were replied to, and `resent` how often kept items were sent
+    /// again.
+    fn ended(&mut self, peer: End, login: Option<&[u8]>, commands: u64, resent: u64, ending: Ending)
         // The log holds the end behind all that it held before: the peer, the name that its user
-        // gave, and why the connection ended.
+        // gave, how often kept items were sent again, and why the connection ended.
         ensures { logged self.new
-            ≡ logged_ended peer (option_map (λ name. name.now) login.entry) ending (logged self.old) };
+            ≡ logged_ended peer (option_map (λ name. name.now) login.entry) resent ending
+            (logged self.old) };
 
     /// A command of the connection to this peer changed this, or was refused. `login` is the name
     /// that the connection's user gave, if any. `cause` is why the store failed, where it did and
@@ -85,7 +87,14 @@ impl Log for Silent {
 
     fn opened(&mut self, peer: End) {}
 
-    fn ended(&mut self, peer: End, login: Option<&[u8]>, commands: u64, ending: Ending) {}
+    fn ended(
+        &mut self,
+        peer: End,
+        login: Option<&[u8]>,
+        commands: u64,
+        resent: u64,
+        ending: Ending,
+    ) {}
 
     fn changed(
         &mut self,

@@ -13,7 +13,7 @@ use crate::watch::Watch;
 use chaos_conn::ConnConfig;
 use chaos_file::Store;
 use chaos_link::{Carriage, Link};
-use chaos_node::{Moments, NodeFault, TurnEnd};
+use chaos_node::{Interval, Moments, NodeFault, TurnEnd};
 use std::alloc::Global;
 
 /// What a service is asked for.
@@ -30,6 +30,8 @@ pub struct ServeOptions {
     pub carriage: Carriage,
     /// How many indices of each slot are passed over, which an older process may have had.
     pub passed: u8,
+    /// After how long kept packets are sent again.
+    pub interval: Interval,
 }
 
 /// Serves FILE on a store, by these options. The host has 16 connections, and listens to `FILE`. The
@@ -40,6 +42,9 @@ pub struct ServeOptions {
 /// in a command, the client gets an error as its reply, and the service goes on. A turn waits only
 /// as the link does. What it sends goes out by the carriage, and datagrams of both versions are
 /// read. The host takes its memory first, and later only files take some.
+///
+/// A connection sends again what it keeps once its slot's timer is over. The timer goes by the
+/// interval of the options, and starts anew with each receipt.
 ///
 /// The log gets whose datagram came, what each command changed, which call of the link's socket
 /// failed, and which connections opened and ended.
@@ -63,14 +68,17 @@ pub fn run_serve_by<M: Moments, L: Link, S: Store, G: LinkLog<L>>(
     // moment behind the turn before. If it ends well, it made all turns, otherwise at most so many.
     // Each turn is the definition's, with `SILENT_MILLIS`, of a service of this address and
     // configuration that began with 16 new sessions, and whose slots have each used up so many
-    // indices. By carriage 2 a turn serves each connection in
-    // a burst. A new connection numbers what it writes from the number of its moment. What came is
-    // known only over a queue. Whatever the link is, it was asked exactly what these turns ask, turn
-    // by turn. Each turn waits for a datagram exactly where nothing in front can be served.
+    // indices. The service began with 16 new timers, which go by the interval. In each turn they
+    // look at their slots' connections first, and then hold ticks back as they are after that look.
+    // By carriage 2 a turn serves each connection in a burst. A new connection numbers what it
+    // writes from the number of its moment. What came is known only over a queue. Whatever the link
+    // is, it was asked exactly what these turns ask, turn by turn. Each turn waits for a datagram
+    // exactly where nothing in front can be served and no tick sends kept items again.
     ensures turns { ServesBy (change S.contents S.may_give S.count) options.carriage
         (Reads (M.read moments.old) (M.read moments.new))
         (Asks (L.asked link.old) (L.asked link.new)) (M.starts (M.time moments.old)) options.config
-        options.turns options.me options.passed store.old store.new (L.queue link.old) (L.queue link.new) result }
+        options.interval options.turns options.me options.passed store.old store.new
+        (L.queue link.old) (L.queue link.new) result }
     // What the log holds afterwards is what it held before, and behind that what each of these turns
     // logged, turn by turn. A turn logs first whose datagram came, and from where by the link's
     // report. Then it logs what each command that it served changed, in order, with the peer of its
@@ -78,15 +86,21 @@ pub fn run_serve_by<M: Moments, L: Link, S: Store, G: LinkLog<L>>(
     // connection that ended or opened since the turn before, slot by slot.
     ensures logs { LogsBy (change S.contents S.may_give S.count) options.carriage
         (M.starts (M.time moments.old)) (Reads (M.read moments.old) (M.read moments.new))
-        (Asks (L.asked link.old) (L.asked link.new)) options.config options.turns options.me
-        options.passed (store.old, G.logged log.old) (store.new, G.logged log.new) (L.queue link.old)
-        (L.queue link.new) result }
+        (Asks (L.asked link.old) (L.asked link.new)) options.config options.interval options.turns
+        options.me options.passed (store.old, G.logged log.old) (store.new, G.logged log.new)
+        (L.queue link.old) (L.queue link.new) result }
     // The run ends well only if the link's count of failures didn't rise. It ends by `Link`
     // only if failures were counted.
     ensures well { OnOk result (L.count link.new ≤ L.count link.old) }
     ensures failed { result ≡ Err NodeFault.Link → 0 < L.count link.new }
 {
-    let mut server = Server::new(alloc, options.me, options.config, options.carriage)?;
+    let mut server = Server::new(
+        alloc,
+        options.me,
+        options.config,
+        options.carriage,
+        options.interval,
+    )?;
     server.pass_indices(options.me, options.passed);
     let mut watch = Watch::new();
     for turn in 0..options.turns {

@@ -24,7 +24,7 @@ pub fn serve_slots<S: Store, L: Link, G: Log>(
     turn: &mut Turn<'_, L>,
     sessions: &mut Sessions,
     store: &mut S,
-    input: &TurnInput,
+    input: &TurnInput<'_>,
     log: &mut G,
 ) -> bool
     requires alike { length sessions.old ≡ length turn.old.host.now.slots }
@@ -58,7 +58,7 @@ fn serve_slot<S: Store, L: Link, G: Log>(
     slot_session: &mut SlotSession,
     id: ConnId,
     store: &mut S,
-    input: &TurnInput,
+    input: &TurnInput<'_>,
     log: &mut G,
 ) -> bool
     ensures { SlotTurnDoes turn.old turn.new

@@ -2,12 +2,13 @@
 //! store, a link and an outbox that are kept apart. The turn itself is [`take_turn`] over a
 //! [`Turn`], and this call only makes one of its arguments, which are more than any other call of
 //! the crate has.
-ghost use Rattle.std.specs.Prelude.{◌≡◌, ◌≤◌, ◌↔◌, [], length, None};
+ghost use Rattle.std.specs.Prelude.{◌≡◌, ◌≤◌, ◌↔◌, [], length};
 ghost use Rattle.chaos_packet.specs.Count.{Rose};
 ghost use Rattle.chaos_file.specs.Store.{change};
 ghost use Rattle.chaos_link.specs.Link.{Asks};
 ghost use Rattle.chaos_node.specs.Station.{station};
 ghost use Rattle.file_server.specs.Server.{server};
+ghost use Rattle.file_server.specs.Slots.{no_options};
 ghost use Rattle.file_server.specs.Turn.{RunsTurn};
 ghost use Rattle.file_server.specs.declared.serve_mode.ServeMode.TheVariants.{Once};
 
@@ -84,7 +85,7 @@ pub fn run_turn<S: Store, L: Link>(
     // to send the packets of the turn, lot by lot, each to its destination. By carriage 1 a packet
     // is sent as its canonical datagram. By carriage 2 the packets that are sent at once go as the
     // datagrams of their loads. Over a queue they go out so.
-    ensures turn { RunsTurn (change S.contents S.may_give S.count) Once None
+    ensures turn { RunsTurn (change S.contents S.may_give S.count) Once no_options
         (Asks (L.asked link.old) (L.asked link.new)) may_wait carriage start now
         (station (server host.old sessions.old store.old) (L.queue link.old) out.old)
         (station (server host.new sessions.new store.new) (L.queue link.new) out.new) result }
@@ -106,6 +107,7 @@ pub fn run_turn<S: Store, L: Link>(
         start,
         mode: ServeMode::Once,
         silence: None,
+        timers: &[],
     };
     let sent = take_turn(&mut turn, sessions, store, begun.came, &input, &mut Silent);
     end_of(begun.failures, turn.link.failures(), begun.worked, sent)

@@ -5,6 +5,7 @@ ghost use Rattle.file_server.specs.Waiting.{can_serve_any, serves_by, waits};
 
 use chaos_file::can_serve;
 use chaos_host::Host;
+use chaos_node::{RetransmitTimer, resends_any};
 
 /// Whether the connection in a slot has something to serve.
 fn serves_at(host: &Host, place: usize) -> bool
@@ -33,10 +34,10 @@ pub fn can_serve_any(host: &Host) -> bool
     false
 }
 
-/// Whether a turn of this host waits for a datagram: where its caller lets it, and no connection
-/// has anything to serve.
-pub(crate) fn waits(host: &Host, may_wait: bool) -> bool
-    ensures { result ≡ waits may_wait host.now }
+/// Whether a turn of this host waits for a datagram: where its caller lets it, no connection has
+/// anything to serve, and no tick of the turn sends kept items again by these timers.
+pub(crate) fn waits(timers: &[RetransmitTimer], now: u64, may_wait: bool, host: &Host) -> bool
+    ensures { result ≡ waits timers.now now may_wait host.now }
 {
-    may_wait && !can_serve_any(host)
+    may_wait && !can_serve_any(host) && !resends_any(timers, host, now)
 }

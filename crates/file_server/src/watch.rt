@@ -1,14 +1,15 @@
 //! Which connections of a server open and end.
-ghost use Rattle.std.specs.Prelude.{◌≡◌, ◌<◌, None, length, replicate};
+ghost use Rattle.std.specs.Prelude.{◌≡◌, ◌<◌, None, length, replicate, slice_get};
 ghost use Rattle.chaos_host.specs.View.{host_look};
 ghost use Rattle.file_server.specs.Sessions.{serving_at};
-ghost use Rattle.file_server.specs.Watch.{after_change, ending_of, is_down, is_same, is_unacknowledged, peer_at, seen_at, watched, watched_at};
+ghost use Rattle.file_server.specs.Watch.{after_change, ending_of, is_down, is_same, is_unacknowledged, peer_at, resent_by, seen_at, watched, watched_at};
 
 use crate::limits::SERVER_CONNS;
 use crate::log::{Ending, Log};
 use crate::sessions::Sessions;
 use chaos_conn::{End, State};
 use chaos_host::{ConnId, Host};
+use chaos_node::RetransmitTimer;
 
 /// A connection that was seen in a slot.
 #[derive(Clone, Copy)]
@@ -39,14 +40,21 @@ impl Watch {
 
     /// Looks at a slot, and logs the connection there that opened or ended since the last look. A
     /// connection that opened and ended between two looks isn't logged.
-    pub fn look<G: Log>(&mut self, host: &Host, sessions: &Sessions, place: usize, log: &mut G)
+    pub fn look<G: Log>(
+        &mut self,
+        host: &Host,
+        sessions: &Sessions,
+        timers: &[RetransmitTimer],
+        place: usize,
+        log: &mut G,
+    )
         requires slot { place < SERVER_CONNS }
         requires session { place < length sessions.now }
         ensures { watched self.new.seen (G.logged log.new)
-            ≡ watched_at host.now sessions.now place (watched self.old.seen (G.logged log.old)) }
+            ≡ watched_at timers.now host.now sessions.now place (watched self.old.seen (G.logged log.old)) }
     {
         let there = seen_at(host, place);
-        log_change(&self.seen[place], &there, sessions, place, log);
+        log_change(&self.seen[place], &there, sessions, timers, place, log);
         self.seen[place] = there;
     }
 }
@@ -124,17 +132,35 @@ fn ending_of(is_down: bool, eof: bool, is_unacknowledged: bool) -> Ending
     }
 }
 
+/// How often the timer of a slot saw that kept items of this connection were sent again.
+fn resent_at(timers: &[RetransmitTimer], place: usize, id: ConnId) -> u64
+    ensures { result ≡ resent_by id (slice_get timers.now place) }
+{
+    match timers.get(place) {
+        Some(timer) => {
+            if timer.id == Some(id) {
+                timer.retransmissions
+            } else {
+                0
+            }
+        }
+        None => 0,
+    }
+}
+
 /// Logs what changed in a slot since the last look.
 fn log_change<G: Log>(
     was: &Option<Seen>,
     there: &Option<Seen>,
     sessions: &Sessions,
+    timers: &[RetransmitTimer],
     place: usize,
     log: &mut G,
 )
     requires { place < length sessions.now }
     ensures { G.logged log.new
-        ≡ after_change was.now there.now (serving_at sessions.now place) (G.logged log.old) }
+        ≡ after_change was.now there.now (serving_at sessions.now place)
+        (slice_get timers.now place) (G.logged log.old) }
 {
     if is_same(was, there) {
         return;
@@ -145,6 +171,7 @@ fn log_change<G: Log>(
             was.peer,
             sessions.name(place),
             sessions.commands(place),
+            resent_at(timers, place, was.id),
             ending,
         );
     }

@@ -13,7 +13,7 @@ returns-clause-turns g c =
     let begins = c.in_ok-moments.ensures.begins in
     rw c.in_ok-run_serve_by.was at
     (served_by_clock (change g.S.Store.contents g.S.Store.may_give g.S.Store.count) c.args.carriage (number_of begun.epoch)
-    (g.C.ReadableClock.shows c.args.clock.now) (g.C.ReadableClock.dates c.args.clock.now) begun.epoch _ _ _ c.args.turns c.args.me _ _ _ _
+    (g.C.ReadableClock.shows c.args.clock.now) (g.C.ReadableClock.dates c.args.clock.now) begun.epoch _ _ _ _ c.args.turns c.args.me _ _ _ _
     c.run_serve_by.result begins.1 c.usual-config.ensures refl
     (λ moments read.
     let behind = (read.goes begun [] (refl, refl, λ shown. (All-nil (IsMoment (g.C.ReadableClock.shows begun.clock.now) begun.epoch), shown))).2 in

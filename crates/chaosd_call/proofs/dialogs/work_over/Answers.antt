@@ -8,12 +8,12 @@ pub returns-in-Ok-new : goal.returns-in-Ok-new
 returns-in-Ok-new g c done =
     let did = c.run_over.ensures done in
     record {
-      route = c.in-Ok-route_of.route;
+      route = c.route_of-route.result;
       is_route =
-          subst (λ (k : Calling). IsRouteOf k c.args.ends.now c.in-Ok-route_of.route) c.calling-calling.ensures
-          c.in-Ok-route_of.ensures;
+          subst (λ (k : Calling). IsRouteOf k c.args.ends.now c.route_of-route.result) c.calling-calling.ensures
+          c.route_of-route.ensures;
       passed = c.passed.result;
       timing = c.in-Ok.timing;
       patience = c.in-Ok.ensures ∙ ap (λ (k : Calling). patience_by k.timeout) c.calling-calling.ensures;
-      done = (did.0, did.1, did.2 ∙ c.in-Ok-new.ensures.made, did.3, did.4);
+      done = (did.0, did.1, did.2 ∙ c.in-Ok-new.ensures.made, did.3, did.4, did.5);
     }

@@ -13,8 +13,8 @@ returns-clause-received g c =
     asked_one _ _ _ _ _ (request_command (command_view c.args.command) 0 c.args.tid) c.next_reply-came.new.reply.items
     c.next_reply-came.result
     (ap (request_command (command_view c.args.command) 0) e)
-    c.next_reply-came.ensures.asked c.next_reply-came.ensures.within
-    (c.next_reply-came.ensures.talk c.args.talk.now [] (since_none _))
+    (rw (c.new-flight.ensures.received) at c.next_reply-came.ensures.asked) c.next_reply-came.ensures.within
+    ((rw (c.new-flight.ensures.sent) at c.next_reply-came.ensures.talk) c.args.talk.now [] (since_none _))
 
 pub returns-clause-sent : goal.returns-clause-sent
 returns-clause-sent g c =
@@ -23,13 +23,13 @@ returns-clause-sent g c =
     c.next_reply-came.result
     (ap (request_command (command_view c.args.command) 0) e)
     c.next_reply-came.ensures.within
-    (c.next_reply-came.ensures.talk c.args.talk.now [] (since_none _))
-    (c.next_reply-came.ensures.fault c.args.talk.now [] (since_none _))
+    ((rw (c.new-flight.ensures.sent) at c.next_reply-came.ensures.talk) c.args.talk.now [] (since_none _))
+    ((rw (c.new-flight.ensures.sent) at c.next_reply-came.ensures.fault) c.args.talk.now [] (since_none _))
 
 pub returns-clause-all : goal.returns-clause-all
 returns-clause-all g c =
     received_ok _ _ _ c.next_reply-came.new.reply.items c.next_reply-came.result
-    (c.next_reply-came.ensures.talk c.args.talk.now [] (since_none _))
+    ((rw (c.new-flight.ensures.sent) at c.next_reply-came.ensures.talk) c.args.talk.now [] (since_none _))
 
 pub returns-clause-known : goal.returns-clause-known
 returns-clause-known g c =
@@ -37,4 +37,4 @@ returns-clause-known g c =
     known _ _ _ c.next_reply-came.new.flight.sent _ (request_command (command_view c.args.command) 0 c.args.tid)
     c.next_reply-came.new.reply.items c.next_reply-came.result (ap (request_command (command_view c.args.command) 0) e)
     c.next_reply-came.ensures.within (λ h. grind (arith, h)) (λ h. grind (arith, h))
-    (c.next_reply-came.ensures.talk c.args.talk.now [] (since_none _))
+    ((rw (c.new-flight.ensures.sent) at c.next_reply-came.ensures.talk) c.args.talk.now [] (since_none _))

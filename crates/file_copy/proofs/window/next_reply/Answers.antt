@@ -1,6 +1,9 @@
-use Rattle.std.proofs.Common.{arith, [], sym, subst, ◌∙◌, ◌≡◌, false, inl, inr}
+use Rattle.std.proofs.Common.{ℕ, arith, [], sym, subst, ◌∙◌, ◌+◌, ◌≤◌, ◌≡◌, false, inl, inr, max}
 use Rattle.file_copy.proofs.Talks.{received_next, received_none, nothing_more, on_err, since_still}
+use Rattle.file_copy.specs.Pace.{most_of}
 use Rattle.file_copy.specs.Talk.{Turned}
+use Rattle.file_copy.specs.declared.pace.Pace.{Pace}
+use Rattle.file_copy.proofs.Paced.{few_more, most_within, window_stays}
 use Rattle.file_copy.proofs.Quiet.{quiet_unreceived, unheard_then, turned_more, late, latest, over_first, over_then}
 use Rattle.file_copy.proofs.window.next_reply.Goals as goal
 use Rattle.file_copy.proofs.window.next_reply.Goals.{then-is_over-via-then-is_over, then-is_over-via-else-is_over+then-is_gone, then-is_over-via-else-is_over+else-is_gone+then-is_late}
@@ -23,6 +26,15 @@ loop-turns-preserved g c =
     record {
       within = c.send_on.ensures.within;
       place = c.send_on.ensures.place ∙ c.loop-turns.invariant.place;
+      few =
+          subst
+          (λ (n : ℕ). c.send_on.new.flight.sent ≤ max c.args.flight.now.sent (n + c.send_on.new.flight.pace.window))
+          (sym c.send_on.ensures.place)
+          (few_more c.args.flight.now.sent c.loop-turns.flight.sent c.send_on.new.flight.sent c.loop-turns.flight.received
+          c.loop-turns.flight.pace.window (most_of c.send_on.new.flight.pace) c.send_on.new.flight.pace.window
+          c.loop-turns.invariant.few c.send_on.ensures.few (most_within c.send_on.new.flight.pace)
+          (subst (λ (p : Pace). c.loop-turns.flight.pace.window ≤ p.window) (sym c.send_on.ensures.pace)
+          (window_stays _ _ _ c.loop-turns.flight.pace)));
       talk = λ start replies h. since_still _ _ _ _ replies (c.send_on.ensures.talk start replies
           (received_none _ _ _ _ replies c.receive_asked.result c.receive_asked.new.reply.items
           (c.loop-turns.invariant.talk start replies h) c.receive_asked.ensures.talk none)) c.turn.ensures.silent;

@@ -1,4 +1,4 @@
-use Rattle.std.proofs.Common.{◌≤◌, ◌≡◌}
+use Rattle.std.proofs.Common.{◌≤◌, ◌≡◌, ◌+◌, max}
 use Rattle.file_copy.specs.Copy.{upto}
 use Rattle.file_copy.specs.Talk.{SendsOn, Turned, Unheard}
 use Rattle.file_copy.specs.Row.{row_command}
@@ -8,6 +8,7 @@ abbrev pub invariant-loop-turns : goal.invariant-loop-turns
 invariant-loop-turns g l = record {
   within : l.flight.sent ≤ l.row.count;
   place : l.flight.received ≡ l.fn.flight.received;
+  few : l.flight.sent ≤ max l.fn.flight.sent (l.flight.received + l.flight.pace.window);
   talk : SendsOn g.T.Talk.talked l.fn.talk l.talk (upto (row_command l.row) l.fn.flight.sent)
       (upto (row_command l.row) l.flight.sent);
   quiet : Unheard (g.T.Talk.talked l.fn.talk) (g.T.Talk.talked l.talk);

@@ -8,6 +8,7 @@ use Rattle.chaos_node.proofs.InTurn.{left_as}
 use Rattle.chaos_node.proofs.Whole.{goes_over}
 use Rattle.file_server.specs.InTurn.{server_in}
 use Rattle.file_server.specs.Server.{server}
+use Rattle.file_server.specs.Slots.{no_options}
 use Rattle.file_server.specs.Turn.{RunsTurn}
 use Rattle.file_server.specs.declared.serve_mode.ServeMode.TheVariants.{Once}
 use Rattle.file_server.proofs.Logged.{runs_plain}
@@ -22,11 +23,11 @@ returns-clause-turn g c =
     let before = station (server c.args.host.now c.args.sessions.now c.args.store.now) (queue c.args.link.now) c.args.out.now in
     let logged = station (server c.args.host.now c.args.sessions.now (c.args.store.now, None)) (queue c.args.link.now) c.args.out.now in
     left_as
-    (λ (h : HostView) l (o : OutboxView). RunsTurn (change g.S.Store.contents g.S.Store.may_give g.S.Store.count) Once None
+    (λ (h : HostView) l (o : OutboxView). RunsTurn (change g.S.Store.contents g.S.Store.may_give g.S.Store.count) Once no_options
     (Asks (asked c.args.link.now) (asked l)) c.args.may_wait c.args.carriage c.args.start c.args.now before
     (station (server h sent.new.sessions sent.new.store) (queue l) o) c.end_of.result)
     sent.new.turn _ _ _ (search rules) (search rules) (search rules)
-    (runs_plain (change g.S.Store.contents g.S.Store.may_give g.S.Store.count) Once None
+    (runs_plain (change g.S.Store.contents g.S.Store.may_give g.S.Store.count) Once no_options
     (Asks (asked c.args.link.now) (asked sent.new.turn.link.now)) c.args.may_wait c.args.carriage c.args.start c.args.now
     logged (server_in sent.new.turn sent.new.sessions (sent.new.store, None)) c.end_of.result
     (record {

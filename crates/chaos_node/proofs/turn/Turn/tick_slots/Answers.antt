@@ -1,8 +1,8 @@
 use Rattle.std.proofs.Common.{◌≡◌, ◌<◌, length, arith, ◌∙◌}
-use Rattle.chaos_node.specs.Slots.{tick_at}
-use Rattle.chaos_node.proofs.Free.{then_next, then_none, ticks_pass}
+use Rattle.chaos_node.specs.Timer.{tick_by}
+use Rattle.chaos_node.proofs.Free.{then_next, then_none, timed_pass}
 use Rattle.chaos_node.proofs.turn.Turn.tick_slots.Goals as goal
-use Rattle.chaos_node.proofs.turn.Turn.tick_slots.Goals.{then-tick_slot, else-tick_slot}
+use Rattle.chaos_node.proofs.turn.Turn.tick_slots.Goals.{then-tick_by, else-tick_by}
 
 pub slots-preserved : goal.slots-preserved
 slots-preserved g c =
@@ -14,13 +14,13 @@ slots-preserved g c =
     record {
       within = omega (arith, size, within);
       done =
-          then_next turn c.slots.self c.tick_slot.new.self tick_at c.slots.from c.in-Some.place c.slots.sent
-          c.tick_slot.result c.if-tick_slot.sent (ticks_pass turn.now) done next c.tick_slot.ensures
-          (elim c.if-tick_slot.branch
-          [ then-tick_slot w ↦ rw w.if-tick_slot.true (w.sent-is ∙ w.if-tick_slot.true) | else-tick_slot w ↦ rw w.if-tick_slot.false w.sent-is ]);
+          then_next turn c.slots.self c.tick_by.new.self (tick_by c.args.timers.now) c.slots.from c.in-Some.place c.slots.sent
+          c.tick_by.result c.if-tick_by.sent (timed_pass c.args.timers.now turn.now) done next c.tick_by.ensures
+          (elim c.if-tick_by.branch
+          [ then-tick_by w ↦ rw w.if-tick_by.true (w.sent-is ∙ w.if-tick_by.true) | else-tick_by w ↦ rw w.if-tick_by.false w.sent-is ]);
     }
 
 pub returns : goal.returns
 returns g c =
-    then_none c.args.self.now c.slots.self (tick_at c.args.self.now.now) c.slots.from c.slots.sent
-    (ticks_pass c.args.self.now.now) c.slots.invariant.done c.slots.invariant.within c.in_default.ensures.next
+    then_none c.args.self.now c.slots.self (tick_by c.args.timers.now c.args.self.now.now) c.slots.from c.slots.sent
+    (timed_pass c.args.timers.now c.args.self.now.now) c.slots.invariant.done c.slots.invariant.within c.in_default.ensures.next

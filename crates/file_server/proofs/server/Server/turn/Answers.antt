@@ -1,4 +1,4 @@
-use Rattle.std.proofs.Common.{◌≡◌, Bool, List, Option, Some, refl, rules, subst}
+use Rattle.std.proofs.Common.{◌≡◌, Bool, List, Option, refl, rules, subst}
 use Rattle.chaos_packet.specs.Outbox.{OutboxView}
 use Rattle.chaos_file.specs.Store.{change}
 use Rattle.chaos_host.specs.View.{HostView}
@@ -10,13 +10,12 @@ use Rattle.chaos_node.proofs.Whole.{goes_over}
 use Rattle.file_server.specs.InTurn.{server_in}
 use Rattle.file_server.specs.Serve.{mode_of}
 use Rattle.file_server.specs.Server.{server}
-use Rattle.file_server.specs.Service.{service_of}
+use Rattle.file_server.specs.Service.{service_of, service_options}
 use Rattle.file_server.specs.Logged.{IsReadOf, LogsTurn, logged_arrival, logged_uses}
 use Rattle.file_server.specs.Turn.{IsTurnBy}
 use Rattle.file_server.specs.Watch.{Event}
 use Rattle.file_server.specs.Waiting.{waits}
 use Rattle.file_server.specs.declared.serve_mode.ServeMode.{ServeMode}
-use Rattle.file_server.specs.declared.limits.TheConstants.{SILENT_MILLIS}
 use Rattle.file_server.proofs.Logged.{logs_plain}
 use Rattle.file_server.proofs.server.Server.turn.Goals as goal
 use Rattle.file_server.proofs.server.Server.turn.Goals.{in-Some-Ok+in-Some, in-Some-Ok+in-Some+else-address-ne0, in-Some-Ok+in-None-1, in-Some+in-Err-1, in-None-1}
@@ -28,6 +27,7 @@ returns-clause-logs g c =
     let begun = c.begin-begun in
     let sent = c.take_turn-sent in
     let node = c.args.self.now.node in
+    let options = service_options c.look_at_conns.new.timers in
     let entries = g.G.Log.logged in
     let read : List Ask → LinkReport → Type 0 =
     IsReadOf g.G.LinkLog.reads (λ l. Asks (asked c.args.link.now) (asked l)) in
@@ -43,12 +43,12 @@ returns-clause-logs g c =
     ] in
     let before = service_of c.args.self.now (c.args.store.now, entries c.args.log.now) (queue c.args.link.now) in
     left_as
-    (λ (h : HostView) l (o : OutboxView). LogsTurn changes (mode_of node.carriage) (Some SILENT_MILLIS) read (Asks (asked c.args.link.now) (asked l))
-    (waits c.args.may_wait node.host) node.carriage c.args.start c.args.now before
+    (λ (h : HostView) l (o : OutboxView). LogsTurn changes (mode_of node.carriage) options read (Asks (asked c.args.link.now) (asked l))
+    (waits c.look_at_conns.new.timers c.args.now c.args.may_wait node.host) node.carriage c.args.start c.args.now before
     (station (server h sent.new.sessions (sent.new.store, entries sent.new.log)) (queue l) o) c.end_of.result)
     sent.new.turn _ _ _ (search rules) (search rules) (search rules)
     (subst
-    (λ (w : Bool). LogsTurn changes (mode_of node.carriage) (Some SILENT_MILLIS) read (Asks (asked c.args.link.now) (asked sent.new.turn.link.now)) w
+    (λ (w : Bool). LogsTurn changes (mode_of node.carriage) options read (Asks (asked c.args.link.now) (asked sent.new.turn.link.now)) w
     node.carriage c.args.start c.args.now before (server_in sent.new.turn sent.new.sessions (sent.new.store, entries sent.new.log))
     c.end_of.result)
     c.waits-may_wait.ensures
@@ -59,12 +59,12 @@ returns-clause-logs g c =
       lots = sent.ensures.0.lots;
       turn =
           subst
-          (λ (t : Option (List Event)). IsTurnBy (logged_uses changes) (mode_of node.carriage) (Some SILENT_MILLIS) begun.result.came c.args.start
+          (λ (t : Option (List Event)). IsTurnBy (logged_uses changes) (mode_of node.carriage) options begun.result.came c.args.start
           c.args.now (server node.host c.args.self.now.sessions (c.args.store.now, t))
           (server_in sent.new.turn sent.new.sessions (sent.new.store, entries sent.new.log)).node sent.ensures.0.lots)
           logged
           (subst
-          (λ (mode : ServeMode). IsTurnBy (logged_uses changes) mode (Some SILENT_MILLIS) begun.result.came c.args.start
+          (λ (mode : ServeMode). IsTurnBy (logged_uses changes) mode options begun.result.came c.args.start
           c.args.now (server node.host c.args.self.now.sessions (c.args.store.now, entries c.match-begun.log))
           (server_in sent.new.turn sent.new.sessions (sent.new.store, entries sent.new.log)).node sent.ensures.0.lots)
           c.of.ensures sent.ensures.0.done);

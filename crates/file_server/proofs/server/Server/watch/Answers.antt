@@ -6,5 +6,5 @@ pub loop-place-preserved : goal.loop-place-preserved
 loop-place-preserved g c =
     rw (add-one c.loop-place.place)
     (c.look.ensures
-    ∙ ap (watched_at c.args.self.now.node.host c.args.self.now.sessions c.loop-place.place)
+    ∙ ap (watched_at c.args.self.now.timers c.args.self.now.node.host c.args.self.now.sessions c.loop-place.place)
     c.loop-place.invariant)

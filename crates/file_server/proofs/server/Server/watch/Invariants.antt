@@ -6,4 +6,4 @@ use Rattle.file_server.proofs.server.Server.watch.Given as goal
 abbrev pub invariant-loop-place : goal.invariant-loop-place
 invariant-loop-place g l =
     watched l.watch.seen (g.G.Log.logged l.log)
-    ≡ watched_slots l.fn.self.node.host l.fn.self.sessions l.place (watched l.fn.watch.seen (g.G.Log.logged l.fn.log))
+    ≡ watched_slots l.fn.self.timers l.fn.self.node.host l.fn.self.sessions l.place (watched l.fn.watch.seen (g.G.Log.logged l.fn.log))
