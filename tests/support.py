@@ -8,6 +8,8 @@ The program is bin/chaosd, or the one that CHAOSD names.
 """
 
 import contextlib
+import functools
+import itertools
 import os
 import pathlib
 import random
@@ -217,17 +219,17 @@ def is_free(port):
     return True
 
 
+@functools.cache
+def ports_in_turn():
+    """The ports of this process, by chance, and each again only after all others: whoever chose one binds it later."""
+    first, last = map(int, os.environ.get("TEST_PORTS", "10000-31999").split("-"))
+    return itertools.cycle(random.sample(range(first, last + 1), last + 1 - first))
+
+
 def free_ports(count):
     """Ports of 127.0.0.1 that nobody has: none of those that the system hands out by itself, which another may have by the time
     that it is bound, and none of those of tests that run beside, which have ranges of their own in TEST_PORTS."""
-    first, last = map(int, os.environ.get("TEST_PORTS", "10000-31999").split("-"))
-    found = []
-    for port in random.sample(range(first, last + 1), last + 1 - first):
-        if len(found) == count:
-            break
-        if is_free(port):
-            found.append(port)
-    return found
+    return list(itertools.islice(filter(is_free, ports_in_turn()), count))
 
 
 class Serving:
