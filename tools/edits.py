@@ -60,7 +60,7 @@ class Span:
     names the line of the first."""
 
     def __init__(self, path, name, function, text):
-        self.path, self.first = path, function.place[1]
+        self.path, self.name, self.function, self.first = path, name, function, function.place[1]
         above = text.split("\n")[: self.first - 1]
         while above and above.pop().lstrip().startswith("#["):
             self.first -= 1

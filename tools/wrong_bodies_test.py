@@ -33,6 +33,21 @@ pub fn other(n: u8) -> u8
 {
     n
 }
+impl Count {
+    pub fn after(&self) -> u8
+        ensures { result ≡ 6 }
+    {
+        6
+    }
+}
+pub struct Other;
+impl Other {
+    pub fn after(&self) -> u8
+        ensures { result ≡ 5 }
+    {
+        5
+    }
+}
 """
 
 HIGH = """pub const MOST: u8 = twice(8);
@@ -61,6 +76,13 @@ use low::Count;
 fn after(n: u8) -> u8 {
     low::next(Count(n).0)
 }
+ghost use Rattle.high.specs.High.{high};
+fn next(n: u8) -> u8
+    ensures { result ≡ high }
+{
+    let two = n;
+    after(two)
+}
 """
 
 WORDS = """-- a word
@@ -74,6 +96,12 @@ abbrev pub spare : N
 spare = 0
 """
 
+HIGH_WORDS = """use Rattle.low.specs.Words.{word}
+
+abbrev pub high : N
+high = word
+"""
+
 EDITS = {
     "one": ("    let one = n;", "    let one = WRONG;"),
     "two": ("        2", "        WRONG"),
@@ -81,6 +109,7 @@ EDITS = {
     "silent": ("    let nothing = 0;", "    let nothing = WRONG;"),
     "limit": ("pub const MOST: u8 = twice(8);", "pub const MOST: u8 = WRONG;"),
     "const": ("    n + n", "    WRONG"),
+    "next": ("    let two = n;", "    let two = WRONG;"),
     "harmless": ("    let one = n;", "    let one = n + 0;"),
     "broken": ("    let one = n;", "    let one = BROKEN;"),
     # by this one another function fails than the one that it changes
@@ -120,8 +149,8 @@ class Example(unittest.TestCase):
         room = tempfile.TemporaryDirectory()
         self.addCleanup(room.cleanup)
         self.top = pathlib.Path(room.name)
-        files = {LOW_FILE: LOW, HIGH_FILE: HIGH, SPECS: WORDS, "crates/high/specs/Words.antt": "use Rattle.low.specs.Words.{word}\n"}
-        files |= {"crates.txt": "low: arrayvec\nhigh: low # the upper one\n", "HANDLES": "Handles allowed: none.\n", "tests/crates/list.txt": "", LINES: "gone 0 2026-11-27\n", "rt": RT}
+        files = {LOW_FILE: LOW, HIGH_FILE: HIGH, SPECS: WORDS, "crates/high/specs/High.antt": HIGH_WORDS}
+        files |= {"crates.txt": "low: arrayvec\nhigh: low # the upper one\n", "HANDLES": "Handles allowed: none.\n", "tests/crates/list.txt": "", LINES: "gone/one 0\n", "rt": RT}
         for path, text in files.items():
             self.write(path, text)
         (self.top / "rt").chmod(0o755)
@@ -145,14 +174,14 @@ class Example(unittest.TestCase):
         return [Edit(self.top / it) for it in paths.values()]
 
     def tried(self, *words):
-        """Runs tools/wrong-bodies. Gives its status, its last line, what `rt` was asked for, and the crates that have a line then."""
+        """Runs tools/wrong-bodies. Gives its status, its last line, what `rt` was asked for, and the wrong bodies that have a line then."""
         ran = subprocess.run([sys.executable, self.top / "tools/wrong-bodies", *words], env=self.environment, stdout=subprocess.PIPE, text=True)
         self.said = ran.stdout.splitlines()
         asked = self.top / "asked"
         words = asked.read_text().split() if asked.exists() else []
         asked.unlink(missing_ok=True)
         lines = (self.top / LINES).read_text().splitlines()
-        return ran.returncode, self.said[-1], words, [it.split()[0] for it in lines if it[:4] != "gone"]
+        return ran.returncode, self.said[-1], words, [it.split()[0].removeprefix("high/") for it in lines if it != "gone/one 0"]
 
 
 class Outputs(unittest.TestCase):
@@ -209,32 +238,54 @@ class Spans(Example):
         self.assertFalse(Verdict(said.format(9) + said.format(17)).blames([span]))
 
 
-class SumsOfCrates(Example):
+class SumsOfWrongBodies(Example):
     """What a sum covers."""
 
-    def is_covered(self, *change):
-        edit = "crates/high/wrong-bodies/one.edit"
-        before = Sums(self.top).of("high", [Edit(self.top / edit)])
+    def is_covered(self, name, *change):
+        edit = f"crates/high/wrong-bodies/{name}.edit"
+        before = Sums(self.top).of("high", Edit(self.top / edit))
         self.change(*change)
-        return before != Sums(self.top).of("high", [Edit(self.top / edit)])
+        return before != Sums(self.top).of("high", Edit(self.top / edit))
 
-    def test_what_the_proof_reads_and_its_own_text_are_covered_and_nothing_else(self):
-        self.edits("one", "two")
+    def test_of_one_function_its_contract_and_what_its_body_sees_are_covered_and_nothing_else(self):
+        self.edits("next", "two")
+        self.write("crates/high/proofs/Lib.antt", "use Rattle.high.specs.Words.{word}\n")
+        for is_covered, *change in (
+            (True, HIGH_FILE, "ensures { result ≡ high }", "ensures { high ≡ result }"),
+            (True, HIGH_FILE, "    after(two)", "    after(two + 0)"),
+            (True, HIGH_FILE, "    low::next(Count(n).0)", "    low::next(n)"),
+            (True, LOW_FILE, "result ≡ n + 1", "result ≡ 1 + n"),
+            # a function of the name that the body calls, of a type that the body sees, and of another
+            (True, LOW_FILE, "result ≡ 6", "6 ≡ result"),
+            (False, LOW_FILE, "result ≡ 5", "5 ≡ result"),
+            (True, SPECS, "below = 1", "below = 2"),
+            (True, "crates/high/wrong-bodies/next.edit", "WRONG", "3"),
+            (False, "crates/high/wrong-bodies/two.edit", "WRONG", "3"),
+            (False, HIGH_FILE, "    2\n", "    1 + 1\n"),
+            (False, HIGH_FILE, "ensures { result ≡ 2 }", "ensures { 2 ≡ result }"),
+            (False, HIGH_FILE, "    after(two + 0)", "    // why\n    after(two  + 0)"),
+            (False, "crates/high/proofs/Lib.antt", "{word}", "{word, below}"),
+            (False, LOW_FILE, "    n + 1\n", "    1 + n\n"),
+            (False, LOW_FILE, "result ≡ n }", "result ≡ n + 0 }"),
+            (False, SPECS, "-- a word", "-- some word"),
+            (False, SPECS, "spare = 0", "spare = 1"),
+        ):
+            self.assertEqual(is_covered, self.is_covered("next", *change), change)
+
+    def test_of_what_others_may_see_all_that_the_proof_of_the_crate_reads_is_covered(self):
+        self.edits("silent")
         for is_covered, *change in (
             (True, HIGH_FILE, "    2\n", "    1 + 1\n"),
             (True, LOW_FILE, "result ≡ n + 1", "result ≡ 1 + n"),
             (True, LOW_FILE, "Count(pub u8)", "Count(pub u16)"),
             (True, SPECS, "below = 1", "below = 2"),
-            (True, "crates/high/wrong-bodies/one.edit", "WRONG", "3"),
-            (False, "crates/high/wrong-bodies/two.edit", "WRONG", "3"),
             (False, HIGH_FILE, "    let one", "    // why\n        let  one"),
             (False, LOW_FILE, "    n + 1\n", "    1 + n\n"),
             (False, LOW_FILE, "// a count", "// how many"),
             (False, LOW_FILE, "result ≡ n }", "result ≡ n + 0 }"),
-            (False, SPECS, "-- a word", "-- some word"),
             (False, SPECS, "spare = 0", "spare = 1"),
         ):
-            self.assertEqual(is_covered, self.is_covered(*change), change)
+            self.assertEqual(is_covered, self.is_covered("silent", *change), change)
 
 
 class Trials(Example):
@@ -243,43 +294,45 @@ class Trials(Example):
     def test_those_of_different_functions_are_tried_by_one_check(self):
         self.edits("one", "two", "again", "silent", "limit")
         # the crate as it stands; one and two; again; and the others alone
-        self.assertEqual((0, "5 passed, 0 failed", ["check", "check", "check", "must-fail"], ["high"]), self.tried("high"))
+        all_five = ["again", "limit", "one", "silent", "two"]
+        self.assertEqual((0, "5 passed, 0 failed", ["check", "check", "check", "must-fail"], all_five), self.tried("high"))
 
     def test_what_the_line_or_the_machine_knows_is_not_tried_again(self):
         self.edits("one", "two")
         self.tried()
-        known = (0, "0 passed, 0 failed", [], ["high"])
+        known = (0, "0 passed, 0 failed", [], ["one", "two"])
         self.write(LINES, "")
         self.assertEqual(known, self.tried("--changed"))
         shutil.rmtree(self.top / "cache")
         self.assertEqual(known, self.tried("--changed"))
         self.edits("silent")
-        self.assertEqual((0, "3 passed, 0 failed"), self.tried("--changed")[:2])
-        self.edits("limit")
-        self.assertEqual((0, "1 passed, 0 failed", ["must-fail"], ["high"]), self.tried("--changed"))
-        self.change(HIGH_FILE, "use low::Count;", "use low::Count; pub fn third() {}")
-        self.assertEqual((0, "4 passed, 0 failed"), self.tried("--changed")[:2])
+        self.assertEqual((0, "1 passed, 0 failed", ["must-fail"], ["one", "silent", "two"]), self.tried("--changed"))
+        # what a function that ensures nothing is changed to may be seen by all
+        self.change(HIGH_FILE, "    2\n", "    1 + 1\n")
+        self.change("crates/high/wrong-bodies/two.edit", "        2", "        1 + 1")
+        self.assertEqual((0, "2 passed, 0 failed"), self.tried("--changed")[:2])
 
     def test_one_that_is_broken_or_far_is_tried_alone_and_the_others_without_it(self):
         for name, status, last in ("far", 0, "2 passed, 0 failed"), ("broken", 1, "1 passed, 1 failed"):
             self.edits("two", name)
             # the crate as it stands; both; each of the two; and this one alone
-            self.assertEqual((status, last, ["check"] * 4 + ["must-fail"], ["high"] * (not status)), self.tried())
+            lines = ["two"] if status else [name, "two"]
+            self.assertEqual((status, last, ["check"] * 4 + ["must-fail"], lines), self.tried())
             (self.top / f"crates/high/wrong-bodies/{name}.edit").unlink()
         self.assertIn("high/broken: NOT REFUSED", self.said)
 
-    def test_one_that_is_let_through_fails_again_and_its_crate_has_no_line(self):
+    def test_one_that_is_let_through_fails_again_and_has_no_line(self):
         self.edits("two", "silent", "harmless")
         for words, last in ((), "2 passed, 1 failed"), (("--changed",), "0 passed, 1 failed"):
             status, said, _, lines = self.tried(*words)
-            self.assertEqual((1, last, []), (status, said, lines))
+            self.assertEqual((1, last, ["silent", "two"]), (status, said, lines))
             self.assertIn("high/harmless: NOT REFUSED", self.said)
 
     def test_those_of_two_crates_are_tried_side_by_side(self):
         self.edits("one", "two")
         self.write("crates/low/wrong-bodies/lower.edit", "file: src/lib.rt\nold:     n + 1\nnew:     WRONG\n")
         status, last, _, lines = self.tried()
-        self.assertEqual((0, "3 passed, 0 failed", ["high", "low"]), (status, last, lines))
+        self.assertEqual((0, "3 passed, 0 failed", ["one", "two", "low/lower"]), (status, last, lines))
 
     def test_a_run_that_is_ended_ends_its_checks_and_removes_its_copies(self):
         self.edits("one", "two")
