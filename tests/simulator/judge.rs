@@ -205,7 +205,8 @@ impl Judge<'_> {
             Task::Rename(old, _) => vec![self.scenario.names[*old].to_string()],
             Task::Ask(_) => Vec::new(),
         };
-        if run.is_final && (status.is_none() || errors.lines().any(|line| !line.ends_with(": FNF No such file."))) {
+        let is_expected = |line: &str| line.ends_with(": FNF No such file.") || line.starts_with("chaosd: ") && is_note(line);
+        if run.is_final && (status.is_none() || !errors.lines().all(is_expected)) {
             if !errors.contains("Connection table full") {
                 self.complain(Wrong::Final, format!("the last get: {:?}, {errors:?}", run.end));
             }
