@@ -18,8 +18,9 @@ pub const MOST_CLIENT: usize = 512 << 10;
 const MOST_USUAL: u64 = 60_000_000;
 /// So it is on a line that carries fewer bytes a second.
 const LEAST_USUAL: u64 = 100_000;
-/// So many packets may arrive twice in any run: a timer of 20 milliseconds may run out while the acknowledgement of a flight is on its way.
-const SPARED: u64 = 8;
+/// So many packets may arrive twice in any run: a timer may run out once while the acknowledgement of a flight is on its way, and the whole flight
+/// then goes again.
+const SPARED: u64 = 32;
 /// A client that waits for so long while nothing goes wrong gets its reply, whatever was lost before.
 const LONG_WAIT: u64 = 5_000_000_000;
 
@@ -159,7 +160,7 @@ impl Judge<'_> {
         }
     }
 
-    /// Where nothing goes wrong and the network is fast enough, at most 1% of the packets arrive twice, beside 8.
+    /// Where nothing goes wrong and the network is fast enough, at most 1% of the packets arrive twice, beside 32.
     fn judge_repeats(&mut self) {
         let Some(repeats) = &self.record.repeats else { return };
         if self.is_usual() && repeats.again > SPARED + repeats.arrived / 100 {
