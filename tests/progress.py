@@ -175,6 +175,7 @@ class Bound(Case):
             ("13", ["--verbose", "--window", "13"], 40 * 448),
             ("13", ["--verbose", "--window", "5"], 40 * 448),
             ("64", ["--verbose"], 200 * 448),
-            ("13", ["--verbose"], 12 * 448),
+            # OPEN and 11 WRITEs, or 12 READs and CLOSE
+            ("13", ["--verbose"], 11 * 448),
         ]:
             self.check_bound(own, options, size, b"")

@@ -122,12 +122,12 @@ class Counting(Road):
 class Twice(Case):
     """Roads that only delay. There each packet goes once."""
 
-    seconds = 30
+    seconds = 45
 
-    def copy_problems(self, subcommand, delay):
+    def copy_problems(self, subcommand, delay, window):
         """What is wrong with a copy, or how many of its items went again."""
         content = mixed_content(120_000)
-        with serving(options=["--window", "64"]) as server, road_before(server, make=Counting, delay=delay) as road, folder() as here:
+        with serving(options=["--window", str(window)]) as server, road_before(server, make=Counting, delay=delay) as road, folder() as here:
             road.begin()
             source, target = (here, server.folder) if subcommand == "put" else (server.folder, here)
             (source / "F").write_bytes(content)
@@ -137,12 +137,37 @@ class Twice(Case):
 
     def test_at_most_one_item_in_a_hundred_goes_twice(self):
         """On a machine that is busy for a while a road holds packets for longer than it should: so it is tried again then."""
-        for delay in [0.005, 0.3]:
+        for delay, window in [(0.005, 1), (0.005, 2), (0.005, 64), (0.3, 64)]:
             for subcommand in ["put", "get"]:
                 begun, problems = time.monotonic(), ["it wasn't tried"]
                 while problems and time.monotonic() < begun + BUSY:
-                    problems = self.copy_problems(subcommand, delay)
-                self.check(f"{subcommand}, {delay * 1_000:.0f} ms each way", problems)
+                    problems = self.copy_problems(subcommand, delay, window)
+                self.check(f"{subcommand}, window {window}, {delay * 1_000:.0f} ms each way", problems)
+
+
+class RoundTrips(Case):
+    """How many round trips an operation on a short file takes. The first one opens the connection, and the last one ends it."""
+
+    seconds = 20
+
+    DELAY = 0.5
+
+    def trips_problems(self, trips, subcommand, *names):
+        """What is wrong with an operation, or how long it took where that is a round trip more than so many."""
+        with serving() as server, road_before(server, delay=self.DELAY) as road, folder() as here:
+            for place in [server.folder, here]:
+                (place / "F").write_bytes(b"abc")
+            begun = time.monotonic()
+            ended, took = copied(road, subcommand, *names, cwd=here), time.monotonic() - begun
+        return ended.problems(DONE, b"", b"") + ([] if took < 2 * self.DELAY * (trips + 1) else [f"it took {took:.1f} s"])
+
+    def test_a_copy_takes_four_and_a_change_three(self):
+        """On a machine that is busy for a while everything takes longer: so it is tried again then."""
+        for trips, *words in [(4, "put", "F"), (4, "get", "F"), (3, "rename", "F", "G"), (3, "delete", "F")]:
+            begun, problems = time.monotonic(), ["it wasn't tried"]
+            while problems and time.monotonic() < begun + BUSY:
+                problems = self.trips_problems(trips, *words)
+            self.check(f"{words[0]} in {trips} round trips of {2 * self.DELAY:.0f} s", problems)
 
 
 class Losing(Case):

@@ -16,7 +16,6 @@ use Rattle.file_transfer.specs.declared.outcome.Outcome.{Outcome}
 use Rattle.file_transfer.specs.declared.outcome.Outcome.TheVariants as o
 use Rattle.file_transfer.specs.declared.severity.Severity.{Severity}
 use Rattle.file_transfer.specs.declared.severity.Severity.TheVariants as s
-use Rattle.file_transfer.proofs.Sessions.{begun}
 use Rattle.chaosd_call.specs.Exit.{status_of_files}
 use Rattle.chaosd_call.specs.Job.{Job, JobDone, Renames}
 use Rattle.chaosd_call.specs.LineDone.{ByFraming}
@@ -46,10 +45,9 @@ pub renamed_job : {T : Type 0} (talked : T → History T) (connects : T → T �
 renamed_job talked connects is_in user name from to start old now outside same_user same_start enters = (
   rename_of from to ∷ [],
   refl,
-  begun talked connects name old now (rename_of from to)
-      (subst (λ u. EntersAnd talked connects false u old (rename_of from to) now) same_user
+  subst (λ u. EntersAnd talked connects false u old (rename_of from to) now) same_user
       (subst (λ t. EntersAnd talked connects false user t (rename_of from to) now) same_start
-      (subst (λ b. EntersAnd talked connects b user start (rename_of from to) now) outside enters))),
+      (subst (λ b. EntersAnd talked connects b user start (rename_of from to) now) outside enters)),
 )
 
 -- ---- what came of one file

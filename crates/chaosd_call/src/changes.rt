@@ -74,8 +74,8 @@ impl<R: AllocGlobal + ReadableClock + Eprint> Work<R> for Delete<'_> {
 /// Renames a file, and says what came of it.
 fn renamed<T: Talk, V: ProgressSink>(session: &mut Session<'_, T, V>, line: &Rename<'_>) -> Outcome
     ensures { MatchChanged result
-        (EntersAnd T.talked T.connects session.old.is_in session.old.login.now session.old.talk
-        (rename_of line.now.from.now line.now.to.now) session.new.talk) }
+        (EntersAnd T.talked T.connects session.old.is_in session.old.login.now
+        session.old.user.talk (rename_of line.now.from.now line.now.to.now) session.new.user.talk) }
 {
     if line.from.len() > MAX_PATH || line.to.len() > MAX_PATH {
         return Outcome::TooLong;

@@ -122,7 +122,7 @@ where
         law_runs::<T, Disk<'_, R>, ProgressLine<'_, '_, R>>();
         let worst = run_copies(&mut gets, &mut words, self.paths.as_slice());
         gets.session.end();
-        report_losses(rt, copying, gets.session.talk.line().losses);
+        report_losses(rt, copying, gets.session.user.line().losses);
         report_bound(rt, copying, gets.session.progress.least_room());
         ExitStatus::of_files(worst)
     }
@@ -173,7 +173,7 @@ where
         law_runs::<T, Disk<'_, R>, ProgressLine<'_, '_, R>>();
         let worst = run_copies(&mut puts, &mut words, self.files.as_slice());
         puts.session.end();
-        report_losses(rt, copying, puts.session.talk.line().losses);
+        report_losses(rt, copying, puts.session.user.line().losses);
         report_bound(rt, copying, puts.session.progress.least_room());
         ExitStatus::of_files(worst)
     }

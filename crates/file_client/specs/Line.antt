@@ -2,6 +2,7 @@
 use Rattle.std.specs.Prelude.{ℕ, ◌+◌, min, Bool, true, false, Option, Some, None, if◌then◌else◌}
 use Rattle.chaos_packet.specs.Count.{max_count}
 use Rattle.chaos_conn.specs.Calls.{has_gap}
+use Rattle.chaos_conn.specs.State.{is_open}
 use Rattle.chaos_conn.specs.View.{ConnView}
 use Rattle.chaos_conn.specs.declared.answers.Delivered.TheVariants.{Duplicate, Took}
 use Rattle.chaos_host.specs.View.{HostView, conn_at}
@@ -12,10 +13,10 @@ use Rattle.chaos_node.specs.declared.timer.RetransmitTimer.{RetransmitTimer}
 use Rattle.chaos_node.specs.declared.round_trip.RoundTrip.{RoundTrip}
 use Rattle.file_copy.specs.declared.pace.Line.{Line}
 
--- how many items the window of the server allows, and 0 where there is no connection
+-- how many items the window of the server allows, and 0 where no connection is open: only an OPN shows that window
 abbrev pub window_in : Option (ℕ × ConnView) → ℕ
 window_in None = 0
-window_in (Some (id, v)) = v.send.window
+window_in (Some (id, v)) = if is_open v.state then v.send.window else 0
 
 abbrev pub has_gap_in : Option (ℕ × ConnView) → Bool
 has_gap_in None = false

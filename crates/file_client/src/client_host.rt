@@ -305,13 +305,14 @@ impl ClientHost {
         }
     }
 
-    /// How many items the server's window allows. It is 0 where there is no connection.
+    /// How many items the server's window allows. It is 0 where no connection is open: only an OPN
+    /// shows that window.
     fn window(&self) -> u16
         ensures { result ≡ window_in (conn_at self.entry.now.caller.host 0) }
     {
         match self.host.conn_at(0) {
-            Some((_, conn)) => conn.window(),
-            None => 0,
+            Some((_, conn)) if conn.state().is_open() => conn.window(),
+            _ => 0,
         }
     }
 

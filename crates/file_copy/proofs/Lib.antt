@@ -13,5 +13,8 @@ pub mod Memory
 pub mod Begun
 pub mod LocalFiles
 pub mod Ended
+pub mod Puts
+pub mod Gets
 pub mod Quiet
 pub mod Paced
+pub mod Users

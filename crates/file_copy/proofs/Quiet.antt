@@ -3,11 +3,11 @@ use Rattle.std.proofs.Common.{◌≡◌, ℕ, ◌+◌, ◌-◌, ◌<◌, ◌≤�
 use Rattle.std.specs.Prelude.{Result, Ok, Err, IfOk, MatchOption, ◌||◌}
 use Rattle.file_copy.specs.declared.limits.TheConstants.{MOST_TURNS}
 use Rattle.file_copy.specs.Copy.{upto}
-use Rattle.file_copy.specs.Talk.{History, Since, Unheard, Turned, IsLate, IsLong, received_in, sent_if, taken}
+use Rattle.file_copy.specs.Talk.{History, Since, Unheard, Turned, IsLate, IsLong, received_in, sent_if, taken, since_none}
 use Rattle.file_copy.specs.declared.end.CopyEnd.{CopyEnd}
 use Rattle.file_copy.specs.declared.end.CopyEnd.TheVariants as e
 use Rattle.file_copy.specs.Ends.{EndedBy, UnlessCopied, UnlessAnswered, unanswered}
-use Rattle.file_copy.proofs.Talks.{none_some, since_none, since_then}
+use Rattle.file_copy.proofs.Talks.{none_some, since_then}
 
 pub unheard_then : {T : Type 0} (a b c : History T) → Unheard a b → Unheard b c → Unheard a c
 unheard_then a b c (xs, h) (ys, k) = (xs ++ ys, since_then a b c xs [] ys [] h k)

@@ -5,14 +5,6 @@ use Rattle.std.proofs.lemmas.List.{append_assoc, append-nil}
 use Rattle.file_copy.specs.Copy.{upto}
 use Rattle.file_copy.specs.Talk.{History, Since, received_in, sent_if, taken}
 
-pub since_none : {T : Type 0} (t : History T) → Since t t [] []
-since_none t = record {
-  goes = λ first talk h.
-      subst (t first)
-      (ap (λ (l : List (List ℕ)). record { sent = l; received = talk.received }) (sym (append-nil talk.sent))
-      ∙ ap (λ (l : List (List ℕ)). record { sent = talk.sent ++ []; received = l }) (sym (append-nil talk.received))) h;
-}
-
 pub since_then : {T : Type 0} (a b c : History T) (xs rs ys qs : List (List ℕ)) → Since a b xs rs → Since b c ys qs
     → Since a c (xs ++ ys) (rs ++ qs)
 since_then a b c xs rs ys qs h k = record {

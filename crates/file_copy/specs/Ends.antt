@@ -1,16 +1,16 @@
 -- How a copy ended, and what was sent and received in it.
-use Rattle.std.specs.Prelude.{◌≡◌, ◌≤◌, ◌<◌, ◌⊎◌, ℕ, ◌+◌, ◌-◌, ◌*◌, Bool, true, false, List, [], ◌∷◌, ◌++◌, codes, length, min, Option, Some, None, Result, Ok, Err}
+use Rattle.std.specs.Prelude.{◌≡◌, ◌≤◌, ◌<◌, ◌⊎◌, nat_le, if◌then◌else◌, ℕ, zero, suc, ◌+◌, ◌-◌, ◌*◌, Bool, true, false, List, [], ◌∷◌, ◌++◌, codes, length, min, Option, Some, None, Result, Ok, Err}
 use Rattle.std.specs.Fmt.{decimal}
 use Rattle.chaos_file.specs.declared.limits.TheConstants.{MAX_CHUNK, MAX_FILE}
-use Rattle.chaos_file.specs.Command.{Login, Read, Write, Rename, Delete}
+use Rattle.chaos_file.specs.Command.{Login, Read, Close, Rename, Delete}
 use Rattle.chaos_file.specs.Spelling.{spelling_of}
-use Rattle.chaos_file.specs.Answer.{LoggedIn, Opened, Given, Wrote, Closed, Renamed, Deleted, read_answer, reply_front}
+use Rattle.chaos_file.specs.Answer.{Answer, LoggedIn, Opened, Given, Wrote, Closed, Renamed, Deleted, read_answer, reply_front}
 use Rattle.chaos_node.specs.declared.fault.NodeFault.{NodeFault}
 use Rattle.file_copy.specs.declared.end.CopyEnd.{CopyEnd}
 use Rattle.file_copy.specs.declared.end.CopyEnd.TheVariants as e
 use Rattle.file_copy.specs.Copy.{Tids, upto, chunk, chunk_count, reply_of, put_front, put_reply, put_front_replies, put_commands, get_front, get_front_replies, get_commands}
 use Rattle.file_copy.specs.Talk.{History, Since, Received, received_in}
-use Rattle.file_copy.specs.Row.{file_handle}
+use Rattle.file_copy.specs.Row.{file_handle, put_command, request_command}
 
 abbrev pub IfCopied : CopyEnd → Type 0 → Type 0
 IfCopied e.Done P = P
@@ -48,20 +48,27 @@ delete_command tid path = spelling_of (decimal tid) [] (Delete path)
 abbrev pub delete_reply : ℕ → List ℕ
 delete_reply tid = reply_of (decimal tid) [] Deleted
 
--- the WRITEs of a file, and their replies
-abbrev pub write_sent : ℕ → List ℕ → ℕ → List ℕ
-write_sent first bytes i = spelling_of (decimal (first + i)) file_handle (Write (chunk bytes i))
+-- the commands of a put before its CLOSE, and their replies
+abbrev pub put_sent : ℕ → List ℕ → List ℕ → ℕ → List ℕ
+put_sent first path bytes i = request_command (put_command path bytes i) (first + i)
 
-abbrev pub write_received : ℕ → List ℕ → ℕ → List ℕ
-write_received first bytes i =
-    reply_of (decimal (first + i)) file_handle (Wrote (min (MAX_CHUNK * (1 + i)) (length bytes)))
+abbrev pub put_answer : List ℕ → ℕ → Answer
+put_answer bytes zero = Opened 0
+put_answer bytes (suc i) = Wrote (min (MAX_CHUNK * (1 + i)) (length bytes))
 
--- the READs of a file, and their replies
-abbrev pub read_sent : ℕ → ℕ → List ℕ
-read_sent first i = spelling_of (decimal (first + i)) file_handle Read
+abbrev pub put_received : ℕ → List ℕ → ℕ → List ℕ
+put_received first bytes i = reply_of (decimal (first + i)) file_handle (put_answer bytes i)
 
+-- the commands of a get behind its OPEN: READs up to the one that is answered EOF, and CLOSE
+abbrev pub get_sent : ℕ → ℕ → ℕ → List ℕ
+get_sent first pieces i = request_command (if nat_le i pieces then Read else Close) (first + i)
+
+-- the replies to the READs, and to CLOSE
 abbrev pub read_received : ℕ → List ℕ → ℕ → List ℕ
 read_received first bytes i = reply_of (decimal (first + i)) file_handle (read_answer (chunk bytes i))
+
+abbrev pub close_received : ℕ → ℕ → List ℕ
+close_received first len = reply_of (decimal (first + (1 + chunk_count len))) file_handle (Closed len)
 
 -- ---- what was sent, however a copy ended
 
@@ -137,11 +144,11 @@ abbrev pub EndedAt : {T : Type 0} → History T → History T → List (List ℕ
 EndedAt start now before tid handle Wanted end =
     (last : Option (List ℕ)) × Received start now (before ++ received_in last) × EndedBy tid handle Wanted last end
 
--- Some WRITEs were answered well, and the put ended by the reply to the next.
+-- OPEN and some WRITEs were answered well, or nothing yet, and the put ended by the reply to the next.
 abbrev pub WritesEnded : {T : Type 0} → History T → History T → ℕ → List ℕ → CopyEnd → Type 0
-WritesEnded start now first bytes end = (i : ℕ) × (i < chunk_count (length bytes))
-    × EndedAt start now (upto (write_received first bytes) i) (decimal (first + i)) file_handle
-    (λ r. r ≡ write_received first bytes i) end
+WritesEnded start now first bytes end = (i : ℕ) × (i < 1 + chunk_count (length bytes))
+    × EndedAt start now (upto (put_received first bytes) i) (decimal (first + i)) file_handle
+    (λ r. r ≡ put_received first bytes i) end
 
 -- A put ended by the reply to OPEN; or OPEN was answered well, and it ended by the reply to a WRITE, and those before
 -- it were answered well; or so were all, and it ended by the reply to CLOSE; or CLOSE was sent, got none, and whether
@@ -177,11 +184,14 @@ IsPiece tid handle len i reply =
     (piece : List ℕ) × (length piece ≡ min (len - MAX_CHUNK * i) MAX_CHUNK)
     × (reply ≡ reply_of tid handle (read_answer piece))
 
--- Some READs gave these bytes, and the get ended by the reply to the next.
+-- Some READs gave these bytes, and the get ended by the reply to the next; or so did all, and it ended by the reply to CLOSE.
 abbrev pub ReadsEnded : {T : Type 0} → History T → History T → ℕ → ℕ → List ℕ → CopyEnd → Type 0
-ReadsEnded start now first len bytes end = (i : ℕ) × (i ≤ chunk_count len)
+ReadsEnded start now first len bytes end =
+    ((i : ℕ) × (i ≤ chunk_count len)
     × EndedAt start now (upto (read_received first bytes) i) (decimal (first + i)) file_handle
-    (IsPiece (decimal (first + i)) file_handle len i) end
+    (IsPiece (decimal (first + i)) file_handle len i) end)
+    ⊎ EndedAt start now (upto (read_received first bytes) (1 + chunk_count len)) (decimal (first + (1 + chunk_count len))) file_handle
+    (λ r. r ≡ close_received first len) end
 
 -- A get ended by the reply to OPEN; or that told a length, and some READs gave these bytes, and it ended by the reply
 -- to the next; or so did all, and it ended by the reply to CLOSE.

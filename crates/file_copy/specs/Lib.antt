@@ -8,3 +8,4 @@ pub mod Memory
 pub mod Local
 pub mod Said
 pub mod Pace
+pub mod User

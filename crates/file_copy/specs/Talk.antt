@@ -1,5 +1,7 @@
 -- What was sent and received in a talk with a FILE server.
 use Rattle.std.specs.Prelude.{◌≡◌, ◌≤◌, ◌⊎◌, ◌||◌, ℕ, ◌-◌, Bool, true, false, List, [], ◌∷◌, ◌++◌, Option, Some, None, nat_lt, if◌then◌else◌}
+use Rattle.std.proofs.Common.{ap, subst, sym, ◌∙◌}
+use Rattle.std.proofs.lemmas.List.{append-nil}
 use Rattle.chaos_packet.specs.Count.{max_count}
 use Rattle.file_copy.specs.declared.limits.TheConstants.{REPLY_TURNS, REPLY_MILLIS, MOST_TURNS}
 use Rattle.file_copy.specs.Copy.{upto}
@@ -41,6 +43,15 @@ History T = T → Talked → Type 0
 -- goes on by them.
 pub record Since {T : Type 0} (start now : History T) (commands replies : List (List ℕ)) : Type 0 where
   pub goes : (first : T) (talk : Talked) → start first talk → now first (with_received replies (with_sent commands talk))
+
+-- Since it stands where it is, nothing was.
+pub since_none : {T : Type 0} (t : History T) → Since t t [] []
+since_none t = record {
+  goes = λ first talk h.
+      subst (t first)
+      (ap (λ (l : List (List ℕ)). record { sent = l; received = talk.received }) (sym (append-nil talk.sent))
+      ∙ ap (λ (l : List (List ℕ)). record { sent = talk.sent ++ []; received = l }) (sym (append-nil talk.received))) h;
+}
 
 -- Since then these replies were received, and no others.
 abbrev pub Received : {T : Type 0} → History T → History T → List (List ℕ) → Type 0

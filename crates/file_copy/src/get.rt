@@ -1,5 +1,5 @@
 //! Getting a file.
-ghost use Rattle.std.specs.Prelude.{◌≡◌, ◌≢◌, ◌⊎◌, ◌≤◌, ◌<◌, ◌+◌, ◌++◌, [], ℕ, List, Some, true, false, length, option_map, IfOk, IfErr, IfSome, MatchOption, OnOk};
+ghost use Rattle.std.specs.Prelude.{◌≡◌, ◌≢◌, ◌⊎◌, ◌≤◌, ◌<◌, ◌+◌, ◌++◌, ◌∷◌, [], ℕ, List, Some, true, false, length, option_map, IfOk, IfErr, IfSome, MatchOption, OnOk};
 ghost use Rattle.std.specs.Fmt.{decimal};
 ghost use Rattle.chaos_file.specs.declared.limits.TheConstants.{MAX_FILE, MAX_PATH, MAX_CHUNK};
 ghost use Rattle.chaos_file.specs.Answer.{Given, Opened};
@@ -9,16 +9,16 @@ ghost use Rattle.file_copy.specs.Copy.{upto, chunk_count, reply_of, get_commands
 ghost use Rattle.file_copy.specs.Row.{file_handle};
 ghost use Rattle.file_copy.specs.Said.{said_to, opened_of, given_of};
 ghost use Rattle.file_copy.specs.Talk.{Since, SentUpTo, InVain, taken, over_where};
-ghost use Rattle.file_copy.specs.Ends.{IfDone, IfUnanswered, UnlessDone, IsGiven, ReadsEnded, GetBegun, GetEnded, tids_from, read_sent, read_received};
+ghost use Rattle.file_copy.specs.Ends.{IfDone, IfUnanswered, UnlessDone, IsGiven, ReadsEnded, GetBegun, GetEnded, tids_from, close_received, get_sent, read_received};
 
 use crate::end::CopyEnd;
 use crate::limits::HANDLE;
 use crate::observer::Observer;
 use crate::put::chunk_count;
-use crate::row::Row;
+use crate::row::{Commands, Row};
 use crate::said::{said_to, write_wanted};
 use crate::talk::Talk;
-use crate::window::{Flight, ask_one, next_reply, refusal, report_bound, settled};
+use crate::window::{Flight, ask_one, is_wanted, next_reply, refusal, report_bound, settled};
 use chaos_file::{Command, MAX_CHUNK, Reply, Said};
 use chaos_node::NodeFault;
 
@@ -105,7 +105,7 @@ fn take_piece(
     }
 }
 
-/// Reads a file of this length by an open handle.
+/// Reads a file of this length by an open handle, and closes it.
 fn read_all<T: Talk, O: Observer>(
     talk: &mut T,
     first: u32,
@@ -116,12 +116,13 @@ fn read_all<T: Talk, O: Observer>(
     requires first { first ≤ MAX_FIRST + 1 }
     requires fits { len ≤ MAX_FILE }
     requires empty { bytes.old.items ≡ [] }
-    ensures sent { SentUpTo (T.talked talk.old) (T.talked talk.new) (read_sent first)
-        (1 + chunk_count len) }
+    ensures sent { SentUpTo (T.talked talk.old) (T.talked talk.new) (get_sent first (chunk_count len))
+        (2 + chunk_count len) }
     ensures done { IfDone result
         ((length bytes.new.items ≡ len) × Since (T.talked talk.old) (T.talked talk.new)
-        (upto (read_sent first) (1 + chunk_count len))
-        (upto (read_received first bytes.new.items) (1 + chunk_count len))) }
+        (upto (get_sent first (chunk_count len)) (2 + chunk_count len))
+        (upto (read_received first bytes.new.items) (1 + chunk_count len)
+        ++ close_received first len ∷ [])) }
     ensures ended { UnlessDone result
         (ReadsEnded (T.talked talk.old) (T.talked talk.new) first len bytes.new.items) }
     ensures waited { IfUnanswered result
@@ -134,8 +135,8 @@ fn read_all<T: Talk, O: Observer>(
     let count = chunk_count(len);
     let row = Row {
         first,
-        count: 1 + count,
-        command: Command::Read,
+        count: 2 + count,
+        commands: Commands::Get(count),
     };
     let mut flight = Flight::new();
     let mut reply = Reply::new();
@@ -154,7 +155,12 @@ fn read_all<T: Talk, O: Observer>(
     let tid = first + count as u32;
     let mut wanted = Reply::new();
     write_wanted(&mut wanted, tid, HANDLE, Said::AtEnd);
-    Ok(settled(came, &reply, &wanted, tid, HANDLE))
+    if !is_wanted(came, &reply, &wanted) {
+        return Ok(refusal(came, &reply, tid, HANDLE));
+    }
+    let came = next_reply(talk, &row, &mut flight, &mut reply, observer)?;
+    write_wanted(&mut wanted, tid + 1, HANDLE, Said::Closed(len));
+    Ok(settled(came, &reply, &wanted, tid + 1, HANDLE))
 }
 
 /// Gets a file. Where the answer is `Done`, the commands that were sent are OPEN, READs up to the
@@ -209,13 +215,5 @@ pub fn get_file<T: Talk, O: Observer>(
         return Ok(refusal(came, &reply, first, HANDLE));
     };
     observer.expect(len);
-    match read_all(talk, first + 1, len, bytes, observer)? {
-        CopyEnd::Done => {}
-        end => return Ok(end),
-    }
-    let last = first + 2 + chunk_count(len) as u32;
-    let came = ask_one(talk, Command::Close, last, &mut reply, observer)?;
-    let mut wanted = Reply::new();
-    write_wanted(&mut wanted, last, HANDLE, Said::Closed(len));
-    Ok(settled(came, &reply, &wanted, last, HANDLE))
+    read_all(talk, first + 1, len, bytes, observer)
 }

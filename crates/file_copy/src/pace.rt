@@ -7,7 +7,7 @@ use crate::limits::{FIRST_FLIGHT, LEAST_FLIGHT, MOST_FLIGHT};
 /// What a talk knows of the line to its server.
 #[derive(Clone, Copy, Debug, PartialEq, Eq)]
 pub struct Line {
-    /// How many items the server's window allows. It is 0 where there is no connection.
+    /// How many items the server's window allows. It is 0 where no connection is open.
     pub window: usize,
     /// How often a packet was lost, as far as is known: it rises with each loss, and with each
     /// retransmission of many packets once.

@@ -1,21 +1,20 @@
 //! Putting a file.
 ghost use Rattle.std.specs.Prelude.{◌≡◌, ◌≤◌, ◌<◌, ◌+◌, length, IfErr, OnOk};
+ghost use Rattle.chaos_file.specs.Reply.{Answered, SaidFits, said_view};
 ghost use Rattle.chaos_file.specs.declared.limits.TheConstants.{MAX_FILE, MAX_PATH};
 ghost use Rattle.file_copy.specs.declared.limits.TheConstants.{MAX_FIRST};
 ghost use Rattle.file_copy.specs.Copy.{upto, chunk_count, put_commands, put_replies};
 ghost use Rattle.file_copy.specs.Row.{file_handle};
 ghost use Rattle.file_copy.specs.Talk.{Since, SentUpTo, InVain, over_where};
-ghost use Rattle.file_copy.specs.Ends.{IfDone, IfUnanswered, UnlessDone, unanswered, PutBegun, PutEnded, WritesEnded, tids_from, write_sent, write_received};
+ghost use Rattle.file_copy.specs.Ends.{IfDone, IfUnanswered, UnlessDone, unanswered, PutBegun, PutEnded, WritesEnded, tids_from, put_answer, put_sent, put_received};
 
 use crate::end::CopyEnd;
 use crate::limits::HANDLE;
 use crate::observer::Observer;
-use crate::row::Row;
+use crate::row::{Commands, Row};
 use crate::said::write_wanted;
 use crate::talk::Talk;
-use crate::window::{
-    Flight, ask_one, ask_telling, is_wanted, next_reply, refusal, report_bound, settled,
-};
+use crate::window::{Flight, ask_telling, is_wanted, next_reply, refusal, report_bound, settled};
 use chaos_file::{Command, MAX_CHUNK, Reply, Said};
 use chaos_node::NodeFault;
 
@@ -28,20 +27,37 @@ pub fn chunk_count(length: usize) -> usize
     (length + (MAX_CHUNK - 1)) / MAX_CHUNK
 }
 
-/// Writes the file's bytes by an open handle.
+/// What the server reports to the command at a place of a put: that the file is open, and then how
+/// many bytes it has.
+fn put_said(bytes: &[u8], i: usize) -> Said<'static>
+    requires place { i ≤ 10000 }
+    requires fits { length bytes.now ≤ MAX_FILE }
+    ensures said { said_view result ≡ Answered (put_answer bytes.now i) }
+    ensures fits { SaidFits (said_view result) }
+{
+    if i == 0 {
+        Said::Opened(0)
+    } else {
+        Said::Wrote((MAX_CHUNK * i).min(bytes.len()))
+    }
+}
+
+/// Opens a file for writing, and writes its bytes.
 fn write_all<T: Talk, O: Observer>(
     talk: &mut T,
     first: u32,
+    path: &[u8],
     bytes: &[u8],
     observer: &mut O,
 ) -> Result<CopyEnd, NodeFault>
-    requires first { first ≤ MAX_FIRST + 1 }
+    requires first { first ≤ MAX_FIRST }
+    requires path { length path.now ≤ MAX_PATH }
     requires fits { length bytes.now ≤ MAX_FILE }
-    ensures sent { SentUpTo (T.talked talk.old) (T.talked talk.new) (write_sent first bytes.now)
-        (chunk_count (length bytes.now)) }
+    ensures sent { SentUpTo (T.talked talk.old) (T.talked talk.new)
+        (put_sent first path.now bytes.now) (1 + chunk_count (length bytes.now)) }
     ensures done { IfDone result (Since (T.talked talk.old) (T.talked talk.new)
-        (upto (write_sent first bytes.now) (chunk_count (length bytes.now)))
-        (upto (write_received first bytes.now) (chunk_count (length bytes.now)))) }
+        (upto (put_sent first path.now bytes.now) (1 + chunk_count (length bytes.now)))
+        (upto (put_received first bytes.now) (1 + chunk_count (length bytes.now)))) }
     ensures ended { UnlessDone result
         (WritesEnded (T.talked talk.old) (T.talked talk.new) first bytes.now) }
     ensures waited { IfUnanswered result
@@ -50,11 +66,11 @@ fn write_all<T: Talk, O: Observer>(
     ensures patient { (T.course talk.new).patience ≡ (T.course talk.old).patience }
     ensures faults { IfErr result (T.failed_by talk.new) }
 {
-    let count = chunk_count(bytes.len());
+    let count = 1 + chunk_count(bytes.len());
     let row = Row {
         first,
         count,
-        command: Command::Write(bytes),
+        commands: Commands::Put(path, bytes),
     };
     let mut flight = Flight::new();
     let mut reply = Reply::new();
@@ -62,12 +78,11 @@ fn write_all<T: Talk, O: Observer>(
     for i in 0..count {
         let came = next_reply(talk, &row, &mut flight, &mut reply, observer)?;
         let tid = first + i as u32;
-        let written = (MAX_CHUNK * (1 + i)).min(bytes.len());
-        write_wanted(&mut wanted, tid, HANDLE, Said::Wrote(written));
+        write_wanted(&mut wanted, tid, HANDLE, put_said(bytes, i));
         if !is_wanted(came, &reply, &wanted) {
             return Ok(refusal(came, &reply, tid, HANDLE));
         }
-        observer.reach(written);
+        observer.reach((MAX_CHUNK * i).min(bytes.len()));
     }
     report_bound(&flight, &row, observer);
     Ok(CopyEnd::Done)
@@ -88,7 +103,7 @@ fn unanswered(is_sent: bool) -> CopyEnd
 /// WRITEs and CLOSE, and the server answered that it has the whole file. Where the CLOSE was sent
 /// and got no reply it is `Unknown` whether the file was put; CLOSE is sent only after each WRITE
 /// was answered by its count. The observer gets the count of the file's bytes, and behind each
-/// reply to a WRITE how many of them the server has. Behind the last of these it gets how many
+/// other reply how many of them the server has. Behind the last of these it gets how many
 /// WRITEs there was room for at first, where there are more.
 ///
 /// # Errors
@@ -131,19 +146,12 @@ pub fn put_file<T: Talk, O: Observer>(
     ensures faults { IfErr result (T.failed_by talk.new) }
 {
     observer.expect(bytes.len());
-    let mut reply = Reply::new();
-    let came = ask_one(talk, Command::OpenWrite(path), first, &mut reply, observer)?;
-    let mut wanted = Reply::new();
-    write_wanted(&mut wanted, first, HANDLE, Said::Opened(0));
-    match settled(came, &reply, &wanted, first, HANDLE) {
-        CopyEnd::Done => {}
-        end => return Ok(end),
-    }
-    match write_all(talk, first + 1, bytes, observer)? {
+    match write_all(talk, first, path, bytes, observer)? {
         CopyEnd::Done => {}
         end => return Ok(end),
     }
     let last = first + 1 + chunk_count(bytes.len()) as u32;
+    let mut reply = Reply::new();
     let mut is_sent = false;
     let came = ask_telling(
         talk,
@@ -156,6 +164,7 @@ pub fn put_file<T: Talk, O: Observer>(
     if !came {
         return Ok(unanswered(is_sent));
     }
+    let mut wanted = Reply::new();
     write_wanted(&mut wanted, last, HANDLE, Said::Closed(bytes.len()));
     Ok(settled(came, &reply, &wanted, last, HANDLE))
 }

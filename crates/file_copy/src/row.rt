@@ -2,20 +2,29 @@
 ghost use Rattle.std.specs.Prelude.{◌≡◌, ◌≤◌, ◌<◌, ◌*◌, length, take, drop};
 ghost use Rattle.chaos_file.specs.Views.{command_view, CommandFits};
 ghost use Rattle.file_copy.specs.Copy.{chunk};
-ghost use Rattle.file_copy.specs.Row.{RequestFits, command_at, handle_of, request_command};
+ghost use Rattle.file_copy.specs.Row.{CommandsFit, command_at, handle_of, request_command};
 
 use crate::limits::HANDLE;
 use chaos_file::{Command, CommandBytes, MAX_CHUNK, write_command};
 use itoa::Buffer;
+
+/// What the commands of a row are.
+#[derive(Clone, Copy)]
+pub enum Commands<'a> {
+    /// One command.
+    One(Command<'a>),
+    /// A file is put at this path: OPEN, and then the file's bytes in WRITEs.
+    Put(&'a [u8], &'a [u8]),
+    /// An open file of so many pieces is got: a READ for each, one that is answered EOF, and CLOSE.
+    Get(usize),
+}
 
 /// A row of commands, named by numbers from `first` on.
 #[derive(Clone, Copy)]
 pub struct Row<'a> {
     pub first: u32,
     pub count: usize,
-    /// The command that is sent at each place. A WRITE holds the whole file here, and at each place
-    /// its piece is sent.
-    pub command: Command<'a>,
+    pub commands: Commands<'a>,
 }
 
 /// At most so many bytes of the front.
@@ -51,15 +60,18 @@ fn piece(bytes: &[u8], i: usize) -> &[u8]
 }
 
 /// The command at a place of the row.
-fn command_at<'a>(command: Command<'a>, i: usize) -> Command<'a>
+fn command_at<'a>(commands: Commands<'a>, i: usize) -> Command<'a>
     requires place { i ≤ 1000000 }
-    requires fits { RequestFits (command_view command) }
-    ensures value { command_view result ≡ command_at (command_view command.entry) i }
+    requires fits { CommandsFit commands }
+    ensures value { command_view result ≡ command_at commands.entry i }
     ensures fits { CommandFits (command_view result) }
 {
-    match command {
-        Command::Write(bytes) => Command::Write(piece(bytes, i)),
-        other => other,
+    match commands {
+        Commands::One(command) => command,
+        Commands::Put(path, _) if i == 0 => Command::OpenWrite(path),
+        Commands::Put(_, bytes) => Command::Write(piece(bytes, i - 1)),
+        Commands::Get(pieces) if i <= pieces => Command::Read,
+        Commands::Get(_) => Command::Close,
     }
 }
 
@@ -76,13 +88,14 @@ fn handle_of(command: &Command<'_>) -> &'static [u8]
 
 /// Writes the command that is sent at a place of the row, which is named by this number, in place
 /// of what was there.
-pub fn spell_at(command: Command<'_>, i: usize, tid: u32, out: &mut CommandBytes)
+pub fn spell_at(commands: Commands<'_>, i: usize, tid: u32, out: &mut CommandBytes)
     requires place { i ≤ 1000000 }
     requires tid { tid < 100000000 }
-    requires fits { RequestFits (command_view command) }
-    ensures { out.new.items ≡ request_command (command_view command.entry) i tid }
+    requires fits { CommandsFit commands }
+    ensures { out.new.items ≡ request_command (command_at commands.entry i) tid }
 {
     let mut digits = Buffer::new();
     let name = digits.format(tid as usize).as_bytes();
-    write_command(name, handle_of(&command), command_at(command, i), out);
+    let command = command_at(commands, i);
+    write_command(name, handle_of(&command), command, out);
 }

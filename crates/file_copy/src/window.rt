@@ -3,13 +3,13 @@ ghost use Rattle.std.specs.Prelude.{◌≡◌, ◌≤◌, ◌<◌, ◌+◌, ◌-
 ghost use Rattle.std.specs.Fmt.{decimal};
 ghost use Rattle.file_copy.specs.Copy.{upto};
 ghost use Rattle.file_copy.specs.Talk.{Since, Received, SentOrNot, InVain, IsLate, Unheard, received_in, sent_if, taken, over_where};
-ghost use Rattle.file_copy.specs.Row.{RequestFits, request_command, row_command};
+ghost use Rattle.file_copy.specs.Row.{CommandsFit, request_command, row_command};
 ghost use Rattle.file_copy.specs.Pace.{first_pace, looked, most_of};
 ghost use Rattle.file_copy.specs.declared.limits.TheConstants.{MAX_FIRST};
 ghost use Rattle.chaos_file.specs.declared.limits.TheConstants.{MAX_NAME, MAX_HANDLE};
 ghost use Rattle.chaos_file.specs.Names.{is_name};
 ghost use Rattle.chaos_file.specs.Reply.{reading_of};
-ghost use Rattle.chaos_file.specs.Views.{command_view};
+ghost use Rattle.chaos_file.specs.Views.{command_view, CommandFits};
 ghost use Rattle.file_copy.specs.Said.{is_refused, said_to};
 ghost use Rattle.file_copy.specs.Ends.{IfCopied, IfDone, IfUnanswered, UnlessCopied, UnlessDone, IsErrorTo, EndedBy, EndedAt, login_command, login_reply};
 
@@ -18,7 +18,7 @@ use crate::end::CopyEnd;
 use crate::limits::{MOST_TURNS, REPLY_MILLIS, REPLY_TURNS};
 use crate::observer::Observer;
 use crate::pace::Pace;
-use crate::row::{Row, spell_at};
+use crate::row::{Commands, Row, spell_at};
 use crate::said::{said_to, write_wanted};
 use crate::talk::Talk;
 use chaos_file::{Command, CommandBytes, Reply, Said};
@@ -85,7 +85,7 @@ fn send_on<T: Talk>(talk: &mut T, row: &Row<'_>, flight: &mut Flight)
     requires sent { flight.old.sent ≤ row.now.count }
     requires first { row.now.first ≤ MAX_FIRST + 9000 }
     requires count { row.now.count ≤ 9000 }
-    requires fits { RequestFits (command_view row.now.command) }
+    requires fits { CommandsFit row.now.commands }
     ensures within { flight.new.sent ≤ row.now.count }
     ensures place { flight.new.received ≡ flight.old.received }
     ensures pace { flight.new.pace
@@ -121,7 +121,7 @@ fn send_more<T: Talk>(
     requires most { most ≤ row.now.count }
     requires first { row.now.first ≤ MAX_FIRST + 9000 }
     requires count { row.now.count ≤ 9000 }
-    requires fits { RequestFits (command_view row.now.command) }
+    requires fits { CommandsFit row.now.commands }
     ensures within { result ≤ most }
     ensures talk { (start : T) (replies : List (List ℕ)) →
         Since (T.talked start) (T.talked talk.old) (upto (row_command row.now) sent) replies
@@ -132,7 +132,7 @@ fn send_more<T: Talk>(
     ensures patient { (T.course talk.new).patience ≡ (T.course talk.old).patience }
 {
     for i in sent..most {
-        spell_at(row.command, i, row.first + i as u32, command);
+        spell_at(row.commands, i, row.first + i as u32, command);
         if !talk.send(command.as_slice()) {
             return i;
         }
@@ -182,7 +182,7 @@ pub fn next_reply<T: Talk, O: Observer>(
     requires sent { flight.old.sent ≤ row.now.count }
     requires first { row.now.first ≤ MAX_FIRST + 9000 }
     requires count { row.now.count ≤ 9000 }
-    requires fits { RequestFits (command_view row.now.command) }
+    requires fits { CommandsFit row.now.commands }
     ensures within { flight.new.sent ≤ row.now.count }
     // Commands are sent only as far as the server's window allows: no more are without a reply.
     ensures few { flight.new.sent
@@ -245,13 +245,13 @@ pub fn ask_telling<T: Talk, O: Observer>(
     observer: &mut O,
 ) -> Result<bool, NodeFault>
     requires tid { tid ≤ MAX_FIRST + 9000 }
-    requires fits { RequestFits (command_view command) }
+    requires fits { CommandFits (command_view command) }
     ensures received { IfOk result
         (λ came. IfSome (taken came reply.new.items)
         (λ text. Since (T.talked talk.old) (T.talked talk.new)
-        (request_command (command_view command.entry) 0 tid ∷ []) (text ∷ []))) }
+        (request_command (command_view command.entry) tid ∷ []) (text ∷ []))) }
     ensures sent { SentOrNot (T.talked talk.old) (T.talked talk.new)
-        (request_command (command_view command.entry) 0 tid) }
+        (request_command (command_view command.entry) tid) }
     // What was received is the reply, or nothing.
     ensures all { IfOk result
         (λ came. Received (T.talked talk.old) (T.talked talk.new)
@@ -260,7 +260,7 @@ pub fn ask_telling<T: Talk, O: Observer>(
     ensures known { IfOk result
         (λ came. MatchOption (taken came reply.new.items)
         (Since (T.talked talk.old) (T.talked talk.new)
-        (sent_if is_sent.new (request_command (command_view command.entry) 0 tid)) [])
+        (sent_if is_sent.new (request_command (command_view command.entry) tid)) [])
         (λ _. Unit {0})) }
     ensures waited { IfOk result
         (λ came. MatchOption (taken came reply.new.items)
@@ -273,7 +273,7 @@ pub fn ask_telling<T: Talk, O: Observer>(
     let row = Row {
         first: tid,
         count: 1,
-        command,
+        commands: Commands::One(command),
     };
     let mut flight = Flight::new();
     let came = next_reply(talk, &row, &mut flight, reply, observer);
@@ -290,13 +290,13 @@ pub fn ask_one<T: Talk, O: Observer>(
     observer: &mut O,
 ) -> Result<bool, NodeFault>
     requires tid { tid ≤ MAX_FIRST + 9000 }
-    requires fits { RequestFits (command_view command) }
+    requires fits { CommandFits (command_view command) }
     ensures received { IfOk result
         (λ came. IfSome (taken came reply.new.items)
         (λ text. Since (T.talked talk.old) (T.talked talk.new)
-        (request_command (command_view command.entry) 0 tid ∷ []) (text ∷ []))) }
+        (request_command (command_view command.entry) tid ∷ []) (text ∷ []))) }
     ensures sent { SentOrNot (T.talked talk.old) (T.talked talk.new)
-        (request_command (command_view command.entry) 0 tid) }
+        (request_command (command_view command.entry) tid) }
     ensures all { IfOk result
         (λ came. Received (T.talked talk.old) (T.talked talk.new)
         (received_in (taken came reply.new.items))) }
@@ -369,46 +369,4 @@ pub fn settled(came: bool, reply: &Reply, wanted: &Reply, tid: u32, handle: &[u8
     } else {
         refusal(came, reply, tid, handle)
     }
-}
-
-/// Gives the user's name, of at most 16 bytes, by a LOGIN that is named 0. Where the answer is
-/// `Done`, that was sent and answered.
-///
-/// # Errors
-/// Those of the talk's turns.
-pub fn log_in<T: Talk, O: Observer>(
-    talk: &mut T,
-    name: &[u8],
-    observer: &mut O,
-) -> Result<CopyEnd, NodeFault>
-    requires { length name.now ≤ MAX_NAME }
-    // Where it was done, this LOGIN was sent and answered, and nothing else.
-    ensures done { IfDone result
-        (Since (T.talked talk.old) (T.talked talk.new) (login_command name.now ∷ [])
-        (login_reply name.now ∷ [])) }
-    // Otherwise `Refused` is an error reply to the LOGIN, `Strange` is neither such a reply nor the
-    // one that was hoped for, and each is the one reply that was received. With `Unanswered` none was.
-    ensures ended { UnlessDone result
-        (EndedAt (T.talked talk.old) (T.talked talk.new) [] (decimal 0) []
-        (λ r. r ≡ login_reply name.now)) }
-    // However it ended, nothing but this LOGIN was sent, and once at most.
-    ensures begun { SentOrNot (T.talked talk.old) (T.talked talk.new) (login_command name.now) }
-    // It got no reply only where the talk is over, where the observer says that nobody is there to
-    // reply, or where from some state of the talk on nothing was received, and the talk was
-    // patient: its patience went by, or, where it has none, 1,000 turns were made and 10 seconds
-    // went by. In each case 4,294,967,295 turns are enough.
-    ensures waited { IfUnanswered result
-        ((t : T) × InVain (T.talked t) (T.course t) (T.talked talk.new) (over_where (O.gone observer.new) (T.course talk.new))) }
-    // It ends well only where no failure was counted.
-    ensures unfailed { OnOk result ((T.course talk.new).failures ≤ (T.course talk.old).failures) }
-    // The talk stays as patient as it was.
-    ensures patient { (T.course talk.new).patience ≡ (T.course talk.old).patience }
-    // It fails only by a turn that did, by the same fault.
-    ensures faults { IfErr result (T.failed_by talk.new) }
-{
-    let mut reply = Reply::new();
-    let came = ask_one(talk, Command::Login(name), 0, &mut reply, observer)?;
-    let mut wanted = Reply::new();
-    write_wanted(&mut wanted, 0, b"", Said::LoggedIn(name));
-    Ok(settled(came, &reply, &wanted, 0, b""))
 }

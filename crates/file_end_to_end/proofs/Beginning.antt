@@ -44,7 +44,7 @@ use Rattle.file_end_to_end.proofs.Asking.{connections_are_asked}
 use Rattle.file_end_to_end.proofs.Held.{AsksNoMore, GrowsBoth, Moved, engine_turn, grows_as, moved, same_system, server_turn, steps_in, story_lasts, turn_done, turning_grows, unasked}
 use Rattle.file_end_to_end.proofs.Saying.{commands_data, run_on}
 use Rattle.file_end_to_end.proofs.Systems.{client_calls}
-use Rattle.file_end_to_end.proofs.Worlds.{received_more, said_more}
+use Rattle.file_end_to_end.proofs.Worlds.{all_alike, received_more, said_more}
 use Rattle.file_end_to_end.proofs.Silent.{HasSaid, Tells, begun_tells, event_tells, late_is_silent}
 
 -- ---- moves
@@ -370,16 +370,6 @@ module _ {S : Type 0} (contents : S → Option Files) (may_give : S → List ℕ
 
   -- ---- a session
 
-  -- there are as many replies as commands
-  all_alike : (operations : List Operation) → length (all_replies operations) ≡ length (all_commands operations)
-  all_alike [] = refl
-  all_alike (operation ∷ operations) =
-      let one = length-append (replies_of operation) (all_replies operations) in
-      let two = length-append (commands_of operation) (all_commands operations) in
-      let same = operation_alike operation in
-      let rest = all_alike operations in
-      omega (arith, one, two, same, rest)
-
   -- an opened connection with all replies of a session
   ends_so : (user : List ℕ) (operations : List Operation) (w : World S) (g : FileNet) (id : ℕ) (c : Name) → Known w g
       → w.client.caller.id ≡ Some id → (t : HasSaid (g.net A) id (said w) (heard w)) → t.story.peer ≡ Some c
@@ -397,14 +387,14 @@ module _ {S : Type 0} (contents : S → Option Files) (may_give : S → List ℕ
         a = a;
         c = c;
         calling = record { id = id; has = has; named_so = refl; story = t.story; client = client };
-        done = operations_among m g a c t.story user operations known.stands.reached client good can
+        done = (operations_among m g a c t.story user operations known.stands.reached client good can
             (record {
               more_said = [];
               more_heard = [];
               said = wrote ∙ sym (append-nil commands);
               heard = read ∙ sym (append-nil replies);
               alike = refl;
-            });
+            })).0;
         once = (answered_once m g a c t.story known.stands.reached client alike).0 ∙ wrote;
       }
 

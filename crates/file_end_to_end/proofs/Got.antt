@@ -24,11 +24,11 @@ use Rattle.file_server.specs.Service.{host_after}
 use Rattle.file_server.specs.Sessions.{new_serving, serving_at}
 use Rattle.file_server.specs.declared.limits.TheConstants.{SERVER_CONNS}
 use Rattle.file_copy.specs.Operation.{all_commands, all_replies, commands_of, replies_of}
-use Rattle.file_net.specs.Operations.{IsDone}
+use Rattle.file_net.specs.Operations.{AreDone, IsDone}
 use Rattle.file_net.specs.FileNet.{FileNet, FileEvent, Nets, FileReached, FileRun, file_happens, new_file_net}
 use Rattle.file_net.proofs.Kept.{reached_is_sound}
 use Rattle.file_net.proofs.Users.{users_are_told}
-use Rattle.file_end_to_end.specs.FileGot.{FileIsGot, get_copy, getting, lines, login, operations, put_copy, putting, talk_for, user}
+use Rattle.file_end_to_end.specs.FileGot.{FileIsGot, get_copy, getting, lines, operations, put_copy, putting, talk_for, user}
 use Rattle.file_end_to_end.specs.Beginning.{IsFinished}
 use Rattle.file_end_to_end.specs.Over.{session_talk}
 use Rattle.file_end_to_end.specs.Program.{program_host, program_turns}
@@ -41,12 +41,12 @@ use Rattle.file_end_to_end.specs.FileGot.{Turns, Serves, pace}
 use Rattle.file_end_to_end.proofs.Beginning.{Known, finishes}
 use Rattle.file_end_to_end.proofs.Going.{IsSmall, Led, LineLed, Stand, engine_led, lines_led, path_goes, server_led, small_at}
 use Rattle.file_end_to_end.proofs.OneSession.{SessionLed, session_led}
-use Rattle.file_end_to_end.proofs.Paths.{getting_path, getting_steps, login_path, login_steps, putting_path, putting_steps, session_path, session_steps}
+use Rattle.file_end_to_end.proofs.Paths.{getting_path, getting_steps, putting_path, putting_steps, session_path, session_steps}
 use Rattle.file_end_to_end.proofs.Lines.{moves_0, moves_1, moves_2, small_0, small_1, small_2}
 use Rattle.file_end_to_end.proofs.Moving.{asks_of}
 use Rattle.file_end_to_end.proofs.Opened.{connections_open}
 use Rattle.file_end_to_end.proofs.Spelled.{can_get, can_put, get_commands_are, get_replies_are, logged_is, login_is, put_commands_are, put_replies_are}
-use Rattle.file_end_to_end.proofs.States.{engine_0, engine_2, reply_0_read, sent_0, sent_0_read, sent_1, server_0, step_0, step_2, world_0, world_1, world_2, world_3, world_9, world_25, world_45}
+use Rattle.file_end_to_end.proofs.States.{engine_0, engine_2, reply_0_read, sent_0, sent_0_read, sent_1, server_0, step_0, step_2, world_0, world_1, world_2, world_3, world_25, world_44}
 use Rattle.file_end_to_end.proofs.Systems.{client_calls}
 use Rattle.file_end_to_end.proofs.Worlds.{Since, served}
 use Rattle.file_end_to_end.proofs.Young.{IsOne}
@@ -244,74 +244,37 @@ module _ (m : Files) (a c : Name) (w : World Files) (f : FileNet) (calling : IsC
     heard = ap (λ l. (talk_of l).received) (sym none);
   }
 
--- ---- the user logs in
-
-login_led : (m : Files) → Led m (opened m).0 (opened m).1 (open_net m) (opened m).2.story (line_3 m).stand.stands.reached (opened m).2.client 4 (world_3 m []) (open_net m) login (world_9 m login_steps)
-login_led m =
-    let calling : IsCalling (world_3 m []) (open_net m) (opened m).0 (opened m).1 =
-    called_now m (world_3 m (step_2 ∷ step_0 ∷ [])) (world_3 m []) (open_net m) (opened m).0 (opened m).1 refl (opened m).2 in
-    let stand : Stand m 4 (world_3 m []) (open_net m) = record { stands = (line_3 m).stand.stands; turns = (line_3 m).stand.turns } in
-    lines_led m (opened m).0 (opened m).1 (open_net m) (opened m).2.story (line_3 m).stand.stands.reached (opened m).2.client
-    login 4 (world_3 m []) (world_9 m login_steps) (open_net m) (lit≤ tt) stand (small_2 m [])
-    (starts m (opened m).0 (opened m).1 (world_3 m []) (open_net m) calling refl 4 stand) (login_path m [])
-
-abbrev logged_net : Files → FileNet
-logged_net m = (login_led m).net
-
-logged : (m : Files)
-    → IsServed m (open_net m) (opened m).0 (opened m).1 (world_9 m login_steps) (logged_net m)
-logged m =
-    served contents may_give count m pace (opened m).0 (opened m).1 (open_net m) (opened m).2.story (line_3 m).stand.stands.reached
-    (opened m).2.client (world_9 m login_steps) (logged_net m) (login_led m).since
-
-login_talk : (m : Files) → IsTalk (world_9 m login_steps).steps (login_command user ∷ []) (login_reply user ∷ [])
-login_talk m = record {
-  sent = ap (λ l. command_item l ∷ []) (sym login_is);
-  received = ap (λ l. l ∷ []) (sym logged_is);
-}
-
-idle : (m : Files) → IsIdle (logged_net m) (opened m).0 (opened m).1 user
-idle m =
-    let silent = open_silent m (opened m).0 in
-    (logged m).logged user silent.0 silent.1 refl (login_talk m)
-
--- ---- the file is put
-
-calling_again : (m : Files) → IsCalling (world_9 m []) (logged_net m) (opened m).0 (opened m).1
-calling_again m =
-    called_now m (world_9 m login_steps) (world_9 m []) (logged_net m) (opened m).0 (opened m).1 refl (logged m).calling
-
-stand_again : (m : Files) → Stand m (login_led m).count_of (world_9 m []) (logged_net m)
-stand_again m = record { stands = (login_led m).stand.stands; turns = (login_led m).stand.turns }
+-- ---- the user logs in, and the file is put
 
 within : (n k : ℕ) → n ≤ k → k ≤ 60 → n + 20 ≤ 85
 within n k few most = omega (arith, few, most)
 
-put_led : (m : Files) → Led m (opened m).0 (opened m).1 (logged_net m) (calling_again m).story (stand_again m).stands.reached (calling_again m).client
-    (login_led m).count_of (world_9 m []) (logged_net m) putting (world_25 m putting_steps)
+put_led : (m : Files) → Led m (opened m).0 (opened m).1 (open_net m) (opened m).2.story (line_3 m).stand.stands.reached (opened m).2.client 4 (world_3 m []) (open_net m) putting (world_25 m putting_steps)
 put_led m =
-    let few : (login_led m).count_of + 20 ≤ 85 = within (login_led m).count_of 10 (login_led m).few (lit≤ tt) in
-    lines_led m (opened m).0 (opened m).1 (logged_net m) (calling_again m).story (stand_again m).stands.reached
-    (calling_again m).client putting (login_led m).count_of (world_9 m []) (world_25 m putting_steps) (logged_net m)
-    (fewer (login_led m).count_of few) (stand_again m) (login_led m).small
-    (starts m (opened m).0 (opened m).1 (world_9 m []) (logged_net m) (calling_again m) refl (login_led m).count_of (stand_again m))
-    (putting_path m [])
-  where
-    fewer : (n : ℕ) → n + 20 ≤ 85 → n + 16 ≤ 85
-    fewer n few = omega (arith, few)
+    let calling : IsCalling (world_3 m []) (open_net m) (opened m).0 (opened m).1 =
+    called_now m (world_3 m (step_2 ∷ step_0 ∷ [])) (world_3 m []) (open_net m) (opened m).0 (opened m).1 refl (opened m).2 in
+    let stand : Stand m 4 (world_3 m []) (open_net m) = record { stands = (line_3 m).stand.stands; turns = (line_3 m).stand.turns } in
+    lines_led m (opened m).0 (opened m).1 (open_net m) (opened m).2.story (line_3 m).stand.stands.reached (opened m).2.client
+    putting 4 (world_3 m []) (world_25 m putting_steps) (open_net m) (lit≤ tt) stand (small_2 m [])
+    (starts m (opened m).0 (opened m).1 (world_3 m []) (open_net m) calling refl 4 stand) (putting_path m [])
 
 abbrev put_net : Files → FileNet
 put_net m = (put_led m).net
 
-put_talk : (m : Files) → IsTalk (world_25 m putting_steps).steps (commands_of put_copy) (replies_of put_copy)
-put_talk m = record { sent = ap (λ ls. each_of command_item ls) put_commands_are; received = put_replies_are }
+put_talk : (m : Files)
+    → IsTalk (world_25 m putting_steps).steps (login_command user ∷ all_commands (put_copy ∷ [])) (login_reply user ∷ all_replies (put_copy ∷ []))
+put_talk m = record {
+  sent = λ j. each_of command_item (sym login_is j ∷ (put_commands_are j ++ []));
+  received = λ j. sym logged_is j ∷ (put_replies_are j ++ []);
+}
 
-abbrev put_says : (m : Files) → Says pace Anything (world_9 m []).client (talk_for put_copy) (world_25 m putting_steps).client
+abbrev put_says : (m : Files)
+    → Says pace Anything (world_3 m []).client (session_talk user (put_copy ∷ [])) (world_25 m putting_steps).client
 put_says m = record {
   whole = talk_of putting_steps;
   talks = record {
     steps = putting_steps;
-    goes = path_goes putting (world_9 m []).client (world_9 m []) (world_25 m putting_steps) refl (putting_path m []);
+    goes = path_goes putting (world_3 m []).client (world_3 m []) (world_25 m putting_steps) refl (putting_path m []);
     same = refl;
   };
   asked = tt;
@@ -320,14 +283,16 @@ put_says m = record {
 }
 
 put : (m : Files)
-    → IsServed m (logged_net m) (opened m).0 (opened m).1 (world_25 m putting_steps) (put_net m)
+    → IsServed m (open_net m) (opened m).0 (opened m).1 (world_25 m putting_steps) (put_net m)
 put m =
-    served contents may_give count m pace (opened m).0 (opened m).1 (logged_net m) (calling_again m).story
-    (stand_again m).stands.reached (calling_again m).client (world_25 m putting_steps) (put_net m) (put_led m).since
+    served contents may_give count m pace (opened m).0 (opened m).1 (open_net m) (opened m).2.story
+    (line_3 m).stand.stands.reached (opened m).2.client (world_25 m putting_steps) (put_net m) (put_led m).since
 
-is_put : (m : Files) → IsDone m (put_net m).history (opened m).1 (said_by (logged_net m) (opened m).0) put_copy
+is_put : (m : Files) → AreDone m (put_net m).history (opened m).1 (login_command user ∷ []) (put_copy ∷ [])
     × IsIdle (put_net m) (opened m).0 (opened m).1 user
-is_put m = (put m).done put_copy user (idle m) can_put (put_talk m)
+is_put m =
+    let silent = open_silent m (opened m).0 in
+    (put m).session user (put_copy ∷ []) silent.0 silent.1 refl (can_put, tt) (put_talk m)
 
 -- ---- the file is got
 
@@ -339,31 +304,29 @@ stand_then : (m : Files) → Stand m (put_led m).count_of (world_25 m []) (put_n
 stand_then m = record { stands = (put_led m).stand.stands; turns = (put_led m).stand.turns }
 
 get_led : (m : Files) → Led m (opened m).0 (opened m).1 (put_net m) (calling_then m).story (stand_then m).stands.reached (calling_then m).client
-    (put_led m).count_of (world_25 m []) (put_net m) getting (world_45 m getting_steps)
+    (put_led m).count_of (world_25 m []) (put_net m) getting (world_44 m getting_steps)
 get_led m =
-    let first = (login_led m).few in
-    let next = (put_led m).few in
     lines_led m (opened m).0 (opened m).1 (put_net m) (calling_then m).story (stand_then m).stands.reached
-    (calling_then m).client getting (put_led m).count_of (world_25 m []) (world_45 m getting_steps) (put_net m)
-    (within (put_led m).count_of 26 (both (login_led m).count_of (put_led m).count_of first next) (lit≤ tt)) (stand_then m) (put_led m).small
+    (calling_then m).client getting (put_led m).count_of (world_25 m []) (world_44 m getting_steps) (put_net m)
+    (fewer (put_led m).count_of (within (put_led m).count_of 26 (put_led m).few (lit≤ tt))) (stand_then m) (put_led m).small
     (starts m (opened m).0 (opened m).1 (world_25 m []) (put_net m) (calling_then m) refl (put_led m).count_of (stand_then m))
     (getting_path m [])
   where
-    both : (k n : ℕ) → k ≤ 10 → n ≤ k + 16 → n ≤ 26
-    both k n first next = omega (arith, first, next)
+    fewer : (n : ℕ) → n + 20 ≤ 85 → n + 19 ≤ 85
+    fewer n few = omega (arith, few)
 
 abbrev got_net : Files → FileNet
 got_net m = (get_led m).net
 
-get_talk : (m : Files) → IsTalk (world_45 m getting_steps).steps (commands_of get_copy) (replies_of get_copy)
+get_talk : (m : Files) → IsTalk (world_44 m getting_steps).steps (commands_of get_copy) (replies_of get_copy)
 get_talk m = record { sent = ap (λ ls. each_of command_item ls) get_commands_are; received = get_replies_are }
 
-abbrev get_says : (m : Files) → Says pace Anything (world_25 m []).client (talk_for get_copy) (world_45 m getting_steps).client
+abbrev get_says : (m : Files) → Says pace Anything (world_25 m []).client (talk_for get_copy) (world_44 m getting_steps).client
 get_says m = record {
   whole = talk_of getting_steps;
   talks = record {
     steps = getting_steps;
-    goes = path_goes getting (world_25 m []).client (world_25 m []) (world_45 m getting_steps) refl (getting_path m []);
+    goes = path_goes getting (world_25 m []).client (world_25 m []) (world_44 m getting_steps) refl (getting_path m []);
     same = refl;
   };
   asked = tt;
@@ -371,10 +334,10 @@ get_says m = record {
   received = (get_talk m).received;
 }
 
-got : (m : Files) → IsServed m (put_net m) (opened m).0 (opened m).1 (world_45 m getting_steps) (got_net m)
+got : (m : Files) → IsServed m (put_net m) (opened m).0 (opened m).1 (world_44 m getting_steps) (got_net m)
 got m =
     served contents may_give count m pace (opened m).0 (opened m).1 (put_net m) (calling_then m).story
-    (stand_then m).stands.reached (calling_then m).client (world_45 m getting_steps) (got_net m) (get_led m).since
+    (stand_then m).stands.reached (calling_then m).client (world_44 m getting_steps) (got_net m) (get_led m).since
 
 is_got : (m : Files) → IsDone m (got_net m).history (opened m).1 (said_by (put_net m) (opened m).0) get_copy
     × IsIdle (got_net m) (opened m).0 (opened m).1 user
@@ -388,9 +351,9 @@ asking_known m = record {
   tells = record { story = _; there = refl; asked = refl; said_so = refl; heard_so = refl };
 }
 
-one_session : (m : Files) → SessionLed m (world_0 m []) (asking_net m) lines (world_45 m session_steps)
+one_session : (m : Files) → SessionLed m (world_0 m []) (asking_net m) lines (world_44 m session_steps)
 one_session m =
-    session_led m lines 1 (world_0 m []) (world_45 m session_steps) (asking_net m) (lit≤ tt) (asking_stand m) (small_start m)
+    session_led m lines 1 (world_0 m []) (world_44 m session_steps) (asking_net m) (lit≤ tt) (asking_stand m) (small_start m)
     (asking_known m) (session_path m)
 
 session_said : IsTalk session_steps (login_command user ∷ all_commands operations) (login_reply user ∷ all_replies operations)
@@ -400,12 +363,12 @@ session_said = record {
 }
 
 abbrev session_says : (m : Files)
-    → Says pace Anything (world_0 m []).client (session_talk user operations) (world_45 m session_steps).client
+    → Says pace Anything (world_0 m []).client (session_talk user operations) (world_44 m session_steps).client
 session_says m = record {
   whole = talk_of session_steps;
   talks = record {
     steps = session_steps;
-    goes = path_goes lines (world_0 m []).client (world_0 m []) (world_45 m session_steps) refl (session_path m);
+    goes = path_goes lines (world_0 m []).client (world_0 m []) (world_44 m session_steps) refl (session_path m);
     same = refl;
   };
   asked = tt;
@@ -413,9 +376,9 @@ session_says m = record {
   received = session_said.received;
 }
 
-session_finished : (m : Files) → IsFinished m user operations (world_45 m session_steps) (one_session m).net
+session_finished : (m : Files) → IsFinished m user operations (world_44 m session_steps) (one_session m).net
 session_finished m =
-    finishes contents may_give count m pace user operations session_steps session_said (world_45 m session_steps)
+    finishes contents may_give count m pace user operations session_steps session_said (world_44 m session_steps)
     (one_session m).net (one_session m).known refl refl (can_put, (can_get, tt))
 
 pub file_is_got : (m : Files) → FileIsGot m
@@ -446,11 +409,6 @@ file_is_got m = record {
   a = (opened m).0;
   c = (opened m).1;
   calling = (opened m).2;
-  logged = world_9 m login_steps;
-  logged_net = logged_net m;
-  logs_in = (login_led m).lead;
-  said = login_talk m;
-  idle = idle m;
   put = world_25 m putting_steps;
   put_net = put_net m;
   puts = (put_led m).lead;
@@ -460,7 +418,7 @@ file_is_got m = record {
   can_put = can_put;
   is_put = (is_put m).0;
   idle_then = (is_put m).1;
-  got = world_45 m getting_steps;
+  got = world_44 m getting_steps;
   got_net = got_net m;
   gets = (get_led m).lead;
   get_talk = get_talk m;
@@ -470,7 +428,7 @@ file_is_got m = record {
   is_got = (is_got m).0;
   calling_still = (got m).calling;
   idle_still = (is_got m).1;
-  last = world_45 m session_steps;
+  last = world_44 m session_steps;
   last_net = (one_session m).net;
   leads = (one_session m).lead;
   same = refl;

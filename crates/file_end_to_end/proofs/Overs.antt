@@ -83,7 +83,7 @@ sessions_in_worlds {C} {L} {S} shows queue asked contents may_give count old new
       says,
       λ m k w f a c stands unused.
           weaker contents may_give count m p (IsServed m f a c) (AreDoneBy m says.talks.steps user operations c)
-          (λ t g served same good can. served.session user operations unused.unsaid unused.unheard good can (talk_is p (asked new.driver.link.now old.driver.link.now) (engine_of queue old) (engine_of queue new) commands replies t.steps says same)) k w f
+          (λ t g served same good can. (served.session user operations unused.unsaid unused.unheard good can (talk_is p (asked new.driver.link.now old.driver.link.now) (engine_of queue old) (engine_of queue new) commands replies t.steps says same)).0) k w f
           (worlds_last contents may_give count m p k w f a c stands unused.calling unused.silent),
     )
 

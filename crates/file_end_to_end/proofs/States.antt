@@ -177,97 +177,91 @@ abbrev pub engine_3 : ConnView
 engine_3 = engine_open 5 4 5 4 0 (sends 101 100 100 (command_item login_text ∷ [])) (holds 300 ([]) 13)
 
 abbrev pub engine_4 : ConnView
-engine_4 = engine_open 6 4 5 4 0 (sends 101 100 100 (command_item login_text ∷ [])) (holds 300 ([]) 13)
+engine_4 = engine_open 5 4 5 4 0 (sends 102 100 100 (command_item login_text ∷ command_item write_open_text ∷ [])) (holds 300 ([]) 13)
 
 abbrev pub engine_5 : ConnView
-engine_5 = engine_open 9 9 5 4 0 (sends 101 101 101 ([])) (holds 300 (Some (command_item login_text) ∷ []) 12)
+engine_5 = engine_open 5 4 5 4 0 (sends 103 100 100 (command_item login_text ∷ command_item write_open_text ∷ command_item write_text ∷ [])) (holds 300 ([]) 13)
 
 abbrev pub engine_6 : ConnView
-engine_6 = engine_open 9 9 5 4 1 (sends 101 101 101 ([])) (holds 301 ([]) 13)
+engine_6 = engine_open 6 4 5 4 0 (sends 103 100 100 (command_item login_text ∷ command_item write_open_text ∷ command_item write_text ∷ [])) (holds 300 ([]) 13)
 
 abbrev pub engine_7 : ConnView
-engine_7 = engine_open 10 9 10 4 0 (sends 102 101 101 (command_item write_open_text ∷ [])) (holds 301 ([]) 13)
+engine_7 = engine_open 9 9 5 4 0 (sends 103 101 101 (command_item write_open_text ∷ command_item write_text ∷ [])) (holds 300 (Some (command_item login_text) ∷ []) 12)
 
 abbrev pub engine_8 : ConnView
-engine_8 = engine_open 11 9 10 4 0 (sends 102 101 101 (command_item write_open_text ∷ [])) (holds 301 ([]) 13)
+engine_8 = engine_open 9 9 5 4 1 (sends 103 101 101 (command_item write_open_text ∷ command_item write_text ∷ [])) (holds 301 ([]) 13)
 
 abbrev pub engine_9 : ConnView
-engine_9 = engine_open 511 9 511 4 0 (sends 102 101 101 (command_item write_open_text ∷ [])) (holds 301 ([]) 13)
+engine_9 = engine_open 11 9 5 4 1 (sends 103 101 101 (command_item write_open_text ∷ command_item write_text ∷ [])) (holds 301 ([]) 13)
 
 abbrev pub engine_10 : ConnView
-engine_10 = engine_open 513 513 511 4 0 (sends 102 102 102 ([])) (holds 301 (Some (command_item write_opened_text) ∷ []) 12)
+engine_10 = engine_open 511 9 511 4 0 (sends 103 101 101 (command_item write_open_text ∷ command_item write_text ∷ [])) (holds 301 ([]) 13)
 
 abbrev pub engine_11 : ConnView
-engine_11 = engine_open 513 513 511 4 1 (sends 102 102 102 ([])) (holds 302 ([]) 13)
+engine_11 = engine_open 514 514 511 4 0 (sends 103 103 103 ([])) (holds 301 (None ∷ Some (command_item wrote_text) ∷ []) 11)
 
 abbrev pub engine_12 : ConnView
-engine_12 = engine_open 514 513 514 4 0 (sends 103 102 102 (command_item write_text ∷ [])) (holds 302 ([]) 13)
+engine_12 = engine_open 515 515 511 4 0 (sends 103 103 103 ([])) (holds 301 (Some (command_item write_opened_text) ∷ Some (command_item wrote_text) ∷ []) 11)
 
 abbrev pub engine_13 : ConnView
-engine_13 = engine_open 515 513 514 4 0 (sends 103 102 102 (command_item write_text ∷ [])) (holds 302 ([]) 13)
+engine_13 = engine_open 515 515 511 4 1 (sends 103 103 103 ([])) (holds 302 (Some (command_item wrote_text) ∷ []) 12)
 
 abbrev pub engine_14 : ConnView
-engine_14 = engine_open 517 517 514 4 0 (sends 103 103 103 ([])) (holds 302 (Some (command_item wrote_text) ∷ []) 12)
+engine_14 = engine_open 515 515 511 4 2 (sends 103 103 103 ([])) (holds 303 ([]) 13)
 
 abbrev pub engine_15 : ConnView
-engine_15 = engine_open 517 517 514 4 1 (sends 103 103 103 ([])) (holds 303 ([]) 13)
+engine_15 = engine_open 516 515 516 4 0 (sends 104 103 103 (command_item write_close_text ∷ [])) (holds 303 ([]) 13)
 
 abbrev pub engine_16 : ConnView
-engine_16 = engine_open 518 517 518 4 0 (sends 104 103 103 (command_item write_close_text ∷ [])) (holds 303 ([]) 13)
+engine_16 = engine_open 517 515 516 4 0 (sends 104 103 103 (command_item write_close_text ∷ [])) (holds 303 ([]) 13)
 
 abbrev pub engine_17 : ConnView
-engine_17 = engine_open 519 517 518 4 0 (sends 104 103 103 (command_item write_close_text ∷ [])) (holds 303 ([]) 13)
+engine_17 = engine_open 519 519 516 4 0 (sends 104 104 104 ([])) (holds 303 (Some (command_item write_closed_text) ∷ []) 12)
 
 abbrev pub engine_18 : ConnView
-engine_18 = engine_open 521 521 518 4 0 (sends 104 104 104 ([])) (holds 303 (Some (command_item write_closed_text) ∷ []) 12)
+engine_18 = engine_open 519 519 516 4 1 (sends 104 104 104 ([])) (holds 304 ([]) 13)
 
 abbrev pub engine_19 : ConnView
-engine_19 = engine_open 521 521 518 4 1 (sends 104 104 104 ([])) (holds 304 ([]) 13)
+engine_19 = engine_open 520 519 520 4 0 (sends 105 104 104 (command_item open_text ∷ [])) (holds 304 ([]) 13)
 
 abbrev pub engine_20 : ConnView
-engine_20 = engine_open 522 521 522 4 0 (sends 105 104 104 (command_item open_text ∷ [])) (holds 304 ([]) 13)
+engine_20 = engine_open 521 519 520 4 0 (sends 105 104 104 (command_item open_text ∷ [])) (holds 304 ([]) 13)
 
 abbrev pub engine_21 : ConnView
-engine_21 = engine_open 523 521 522 4 0 (sends 105 104 104 (command_item open_text ∷ [])) (holds 304 ([]) 13)
+engine_21 = engine_open 523 523 520 4 0 (sends 105 105 105 ([])) (holds 304 (Some (command_item opened_text) ∷ []) 12)
 
 abbrev pub engine_22 : ConnView
-engine_22 = engine_open 525 525 522 4 0 (sends 105 105 105 ([])) (holds 304 (Some (command_item opened_text) ∷ []) 12)
+engine_22 = engine_open 523 523 520 4 1 (sends 105 105 105 ([])) (holds 305 ([]) 13)
 
 abbrev pub engine_23 : ConnView
-engine_23 = engine_open 525 525 522 4 1 (sends 105 105 105 ([])) (holds 305 ([]) 13)
+engine_23 = engine_open 524 523 524 4 0 (sends 106 105 105 (command_item read_text ∷ [])) (holds 305 ([]) 13)
 
 abbrev pub engine_24 : ConnView
-engine_24 = engine_open 526 525 526 4 0 (sends 106 105 105 (command_item read_text ∷ [])) (holds 305 ([]) 13)
+engine_24 = engine_open 524 523 524 4 0 (sends 107 105 105 (command_item read_text ∷ command_item more_text ∷ [])) (holds 305 ([]) 13)
 
 abbrev pub engine_25 : ConnView
-engine_25 = engine_open 526 525 526 4 0 (sends 107 105 105 (command_item read_text ∷ command_item more_text ∷ [])) (holds 305 ([]) 13)
+engine_25 = engine_open 524 523 524 4 0 (sends 108 105 105 (command_item read_text ∷ command_item more_text ∷ command_item close_text ∷ [])) (holds 305 ([]) 13)
 
 abbrev pub engine_26 : ConnView
-engine_26 = engine_open 527 525 526 4 0 (sends 107 105 105 (command_item read_text ∷ command_item more_text ∷ [])) (holds 305 ([]) 13)
+engine_26 = engine_open 525 523 524 4 0 (sends 108 105 105 (command_item read_text ∷ command_item more_text ∷ command_item close_text ∷ [])) (holds 305 ([]) 13)
 
 abbrev pub engine_27 : ConnView
-engine_27 = engine_open 531 531 526 4 0 (sends 107 107 107 ([])) (holds 305 (None ∷ Some (command_item end_text) ∷ []) 11)
+engine_27 = engine_open 530 530 524 4 0 (sends 108 107 107 (command_item close_text ∷ [])) (holds 305 (None ∷ Some (command_item end_text) ∷ []) 11)
 
 abbrev pub engine_28 : ConnView
-engine_28 = engine_open 532 532 526 4 0 (sends 107 107 107 ([])) (holds 305 (Some (command_item bytes_text) ∷ Some (command_item end_text) ∷ []) 11)
+engine_28 = engine_open 531 531 524 4 0 (sends 108 107 107 (command_item close_text ∷ [])) (holds 305 (Some (command_item bytes_text) ∷ Some (command_item end_text) ∷ []) 11)
 
 abbrev pub engine_29 : ConnView
-engine_29 = engine_open 532 532 526 4 1 (sends 107 107 107 ([])) (holds 306 (Some (command_item end_text) ∷ []) 12)
+engine_29 = engine_open 531 531 524 4 1 (sends 108 107 107 (command_item close_text ∷ [])) (holds 306 (Some (command_item end_text) ∷ []) 12)
 
 abbrev pub engine_30 : ConnView
-engine_30 = engine_open 532 532 526 4 2 (sends 107 107 107 ([])) (holds 307 ([]) 13)
+engine_30 = engine_open 531 531 524 4 2 (sends 108 107 107 (command_item close_text ∷ [])) (holds 307 ([]) 13)
 
 abbrev pub engine_31 : ConnView
-engine_31 = engine_open 533 532 533 4 0 (sends 108 107 107 (command_item close_text ∷ [])) (holds 307 ([]) 13)
+engine_31 = engine_open 532 532 524 4 2 (sends 108 108 108 ([])) (holds 307 (Some (command_item closed_text) ∷ []) 12)
 
 abbrev pub engine_32 : ConnView
-engine_32 = engine_open 534 532 533 4 0 (sends 108 107 107 (command_item close_text ∷ [])) (holds 307 ([]) 13)
-
-abbrev pub engine_33 : ConnView
-engine_33 = engine_open 536 536 533 4 0 (sends 108 108 108 ([])) (holds 307 (Some (command_item closed_text) ∷ []) 12)
-
-abbrev pub engine_34 : ConnView
-engine_34 = engine_open 536 536 533 4 1 (sends 108 108 108 ([])) (holds 308 ([]) 13)
+engine_32 = engine_open 532 532 524 4 3 (sends 108 108 108 ([])) (holds 308 ([]) 13)
 
 abbrev pub server_0 : ConnView
 server_0 = new_conn usual_config
@@ -285,46 +279,46 @@ abbrev pub server_4 : ConnView
 server_4 = server_open 8 8 7 3 0 (sends 301 300 300 (command_item login_text ∷ [])) (holds 101 ([]) 13)
 
 abbrev pub server_5 : ConnView
-server_5 = server_open 512 512 7 3 0 (sends 301 301 301 ([])) (holds 101 (Some (command_item write_open_text) ∷ []) 12)
+server_5 = server_open 10 10 7 3 0 (sends 301 300 300 (command_item login_text ∷ [])) (holds 101 (None ∷ Some (command_item write_text) ∷ []) 11)
 
 abbrev pub server_6 : ConnView
-server_6 = server_open 512 512 512 3 0 (sends 302 301 301 (command_item write_opened_text ∷ [])) (holds 102 ([]) 13)
+server_6 = server_open 512 512 7 3 0 (sends 301 301 301 ([])) (holds 101 (Some (command_item write_open_text) ∷ Some (command_item write_text) ∷ []) 11)
 
 abbrev pub server_7 : ConnView
-server_7 = server_open 516 516 512 3 0 (sends 302 302 302 ([])) (holds 102 (Some (command_item write_text) ∷ []) 12)
+server_7 = server_open 512 512 512 3 0 (sends 302 301 301 (command_item write_opened_text ∷ [])) (holds 102 (Some (command_item write_text) ∷ []) 12)
 
 abbrev pub server_8 : ConnView
-server_8 = server_open 516 516 516 3 0 (sends 303 302 302 (command_item wrote_text ∷ [])) (holds 103 ([]) 13)
+server_8 = server_open 513 512 512 3 0 (sends 303 301 301 (command_item write_opened_text ∷ command_item wrote_text ∷ [])) (holds 103 ([]) 13)
 
 abbrev pub server_9 : ConnView
-server_9 = server_open 520 520 516 3 0 (sends 303 303 303 ([])) (holds 103 (Some (command_item write_close_text) ∷ []) 12)
+server_9 = server_open 518 518 512 3 0 (sends 303 303 303 ([])) (holds 103 (Some (command_item write_close_text) ∷ []) 12)
 
 abbrev pub server_10 : ConnView
-server_10 = server_open 520 520 520 3 0 (sends 304 303 303 (command_item write_closed_text ∷ [])) (holds 104 ([]) 13)
+server_10 = server_open 518 518 518 3 0 (sends 304 303 303 (command_item write_closed_text ∷ [])) (holds 104 ([]) 13)
 
 abbrev pub server_11 : ConnView
-server_11 = server_open 524 524 520 3 0 (sends 304 304 304 ([])) (holds 104 (Some (command_item open_text) ∷ []) 12)
+server_11 = server_open 522 522 518 3 0 (sends 304 304 304 ([])) (holds 104 (Some (command_item open_text) ∷ []) 12)
 
 abbrev pub server_12 : ConnView
-server_12 = server_open 524 524 524 3 0 (sends 305 304 304 (command_item opened_text ∷ [])) (holds 105 ([]) 13)
+server_12 = server_open 522 522 522 3 0 (sends 305 304 304 (command_item opened_text ∷ [])) (holds 105 ([]) 13)
 
 abbrev pub server_13 : ConnView
-server_13 = server_open 528 528 524 3 0 (sends 305 305 305 ([])) (holds 105 (None ∷ Some (command_item more_text) ∷ []) 11)
+server_13 = server_open 526 526 522 3 0 (sends 305 305 305 ([])) (holds 105 (None ∷ Some (command_item more_text) ∷ []) 11)
 
 abbrev pub server_14 : ConnView
-server_14 = server_open 529 529 524 3 0 (sends 305 305 305 ([])) (holds 105 (Some (command_item read_text) ∷ Some (command_item more_text) ∷ []) 11)
+server_14 = server_open 527 527 522 3 0 (sends 305 305 305 ([])) (holds 105 (Some (command_item read_text) ∷ Some (command_item more_text) ∷ []) 11)
 
 abbrev pub server_15 : ConnView
-server_15 = server_open 529 529 529 3 0 (sends 306 305 305 (command_item bytes_text ∷ [])) (holds 106 (Some (command_item more_text) ∷ []) 12)
+server_15 = server_open 527 527 527 3 0 (sends 306 305 305 (command_item bytes_text ∷ [])) (holds 106 (Some (command_item more_text) ∷ []) 12)
 
 abbrev pub server_16 : ConnView
-server_16 = server_open 530 529 529 3 0 (sends 307 305 305 (command_item bytes_text ∷ command_item end_text ∷ [])) (holds 107 ([]) 13)
+server_16 = server_open 528 527 527 3 0 (sends 307 305 305 (command_item bytes_text ∷ command_item end_text ∷ [])) (holds 107 ([]) 13)
 
 abbrev pub server_17 : ConnView
-server_17 = server_open 535 535 529 3 0 (sends 307 307 307 ([])) (holds 107 (Some (command_item close_text) ∷ []) 12)
+server_17 = server_open 529 529 527 3 0 (sends 307 305 305 (command_item bytes_text ∷ command_item end_text ∷ [])) (holds 107 (Some (command_item close_text) ∷ []) 12)
 
 abbrev pub server_18 : ConnView
-server_18 = server_open 535 535 535 3 0 (sends 308 307 307 (command_item closed_text ∷ [])) (holds 108 ([]) 13)
+server_18 = server_open 529 529 527 3 0 (sends 308 305 305 (command_item bytes_text ∷ command_item end_text ∷ command_item closed_text ∷ [])) (holds 108 ([]) 13)
 
 -- ---- packets, and what is read of their datagrams
 
@@ -361,6 +355,18 @@ sent_2 = from_engine 128 101 300 login_text
 pub sent_2_read : IsRead sent_2
 sent_2_read = refl
 
+abbrev pub sent_3 : PacketView
+sent_3 = from_engine 128 102 300 write_open_text
+
+pub sent_3_read : IsRead sent_3
+sent_3_read = refl
+
+abbrev pub sent_4 : PacketView
+sent_4 = from_engine 128 103 300 write_text
+
+pub sent_4_read : IsRead sent_4
+sent_4_read = refl
+
 abbrev pub reply_1 : PacketView
 reply_1 = from_server 128 301 101 login_text
 
@@ -373,11 +379,17 @@ reply_2 = from_server 7 0 101 (101 ∷ 0 ∷ 13 ∷ 0 ∷ [])
 pub reply_2_read : IsRead reply_2
 reply_2_read = refl
 
-abbrev pub sent_3 : PacketView
-sent_3 = from_engine 128 102 301 write_open_text
+abbrev pub sent_5 : PacketView
+sent_5 = from_engine 128 102 301 write_open_text
 
-pub sent_3_read : IsRead sent_3
-sent_3_read = refl
+pub sent_5_read : IsRead sent_5
+sent_5_read = refl
+
+abbrev pub sent_6 : PacketView
+sent_6 = from_engine 128 103 301 write_text
+
+pub sent_6_read : IsRead sent_6
+sent_6_read = refl
 
 abbrev pub reply_3 : PacketView
 reply_3 = from_server 128 302 102 write_opened_text
@@ -385,23 +397,17 @@ reply_3 = from_server 128 302 102 write_opened_text
 pub reply_3_read : IsRead reply_3
 reply_3_read = refl
 
-abbrev pub sent_4 : PacketView
-sent_4 = from_engine 128 103 302 write_text
-
-pub sent_4_read : IsRead sent_4
-sent_4_read = refl
-
 abbrev pub reply_4 : PacketView
 reply_4 = from_server 128 303 103 wrote_text
 
 pub reply_4_read : IsRead reply_4
 reply_4_read = refl
 
-abbrev pub sent_5 : PacketView
-sent_5 = from_engine 128 104 303 write_close_text
+abbrev pub sent_7 : PacketView
+sent_7 = from_engine 128 104 303 write_close_text
 
-pub sent_5_read : IsRead sent_5
-sent_5_read = refl
+pub sent_7_read : IsRead sent_7
+sent_7_read = refl
 
 abbrev pub reply_5 : PacketView
 reply_5 = from_server 128 304 104 write_closed_text
@@ -409,11 +415,11 @@ reply_5 = from_server 128 304 104 write_closed_text
 pub reply_5_read : IsRead reply_5
 reply_5_read = refl
 
-abbrev pub sent_6 : PacketView
-sent_6 = from_engine 128 105 304 open_text
+abbrev pub sent_8 : PacketView
+sent_8 = from_engine 128 105 304 open_text
 
-pub sent_6_read : IsRead sent_6
-sent_6_read = refl
+pub sent_8_read : IsRead sent_8
+sent_8_read = refl
 
 abbrev pub reply_6 : PacketView
 reply_6 = from_server 128 305 105 opened_text
@@ -421,17 +427,23 @@ reply_6 = from_server 128 305 105 opened_text
 pub reply_6_read : IsRead reply_6
 reply_6_read = refl
 
-abbrev pub sent_7 : PacketView
-sent_7 = from_engine 128 106 305 read_text
+abbrev pub sent_9 : PacketView
+sent_9 = from_engine 128 106 305 read_text
 
-pub sent_7_read : IsRead sent_7
-sent_7_read = refl
+pub sent_9_read : IsRead sent_9
+sent_9_read = refl
 
-abbrev pub sent_8 : PacketView
-sent_8 = from_engine 128 107 305 more_text
+abbrev pub sent_10 : PacketView
+sent_10 = from_engine 128 107 305 more_text
 
-pub sent_8_read : IsRead sent_8
-sent_8_read = refl
+pub sent_10_read : IsRead sent_10
+sent_10_read = refl
+
+abbrev pub sent_11 : PacketView
+sent_11 = from_engine 128 108 305 close_text
+
+pub sent_11_read : IsRead sent_11
+sent_11_read = refl
 
 abbrev pub reply_7 : PacketView
 reply_7 = from_server 128 306 106 bytes_text
@@ -444,12 +456,6 @@ reply_8 = from_server 128 307 107 end_text
 
 pub reply_8_read : IsRead reply_8
 reply_8_read = refl
-
-abbrev pub sent_9 : PacketView
-sent_9 = from_engine 128 108 307 close_text
-
-pub sent_9_read : IsRead sent_9
-sent_9_read = refl
 
 abbrev pub reply_9 : PacketView
 reply_9 = from_server 128 308 108 closed_text
@@ -469,97 +475,91 @@ abbrev pub step_3 : Step
 step_3 = Writes (command_item login_text) 5 true
 
 abbrev pub step_4 : Step
-step_4 = Turns 6 (asks_of (sent_2 ∷ []) ([]))
+step_4 = Writes (command_item write_open_text) 5 true
 
-abbrev pub step_7 : Step
-step_7 = Turns 9 (asks_of ([]) ([] ∷ []))
+abbrev pub step_5 : Step
+step_5 = Writes (command_item write_text) 5 true
 
-abbrev pub step_8 : Step
-step_8 = Reads (Some login_text)
+abbrev pub step_6 : Step
+step_6 = Turns 6 (asks_of (sent_2 ∷ sent_3 ∷ sent_4 ∷ []) ([]))
 
 abbrev pub step_9 : Step
-step_9 = Writes (command_item write_open_text) 10 true
+step_9 = Turns 9 (asks_of ([]) ([] ∷ []))
 
 abbrev pub step_10 : Step
-step_10 = Turns 11 (asks_of (sent_3 ∷ []) ([]))
+step_10 = Reads (Some login_text)
 
-abbrev pub step_11 : Step
-step_11 = Turns 511 (asks_of ([]) ((sent_3 ∷ []) ∷ []))
+abbrev pub step_12 : Step
+step_12 = Turns 11 (asks_of ([]) ([]))
 
 abbrev pub step_13 : Step
-step_13 = Turns 513 (asks_of ([]) ([] ∷ []))
-
-abbrev pub step_14 : Step
-step_14 = Reads (Some write_opened_text)
-
-abbrev pub step_15 : Step
-step_15 = Writes (command_item write_text) 514 true
+step_13 = Turns 511 (asks_of ([]) ((sent_5 ∷ []) ∷ (sent_6 ∷ []) ∷ []))
 
 abbrev pub step_16 : Step
-step_16 = Turns 515 (asks_of (sent_4 ∷ []) ([]))
+step_16 = Turns 514 (asks_of ([]) ([] ∷ []))
+
+abbrev pub step_17 : Step
+step_17 = Turns 515 (asks_of ([]) ([] ∷ []))
 
 abbrev pub step_18 : Step
-step_18 = Turns 517 (asks_of ([]) ([] ∷ []))
+step_18 = Reads (Some write_opened_text)
 
 abbrev pub step_19 : Step
 step_19 = Reads (Some wrote_text)
 
 abbrev pub step_20 : Step
-step_20 = Writes (command_item write_close_text) 518 true
+step_20 = Writes (command_item write_close_text) 516 true
 
 abbrev pub step_21 : Step
-step_21 = Turns 519 (asks_of (sent_5 ∷ []) ([]))
+step_21 = Turns 517 (asks_of (sent_7 ∷ []) ([]))
 
 abbrev pub step_23 : Step
-step_23 = Turns 521 (asks_of ([]) ([] ∷ []))
+step_23 = Turns 519 (asks_of ([]) ([] ∷ []))
 
 abbrev pub step_24 : Step
 step_24 = Reads (Some write_closed_text)
 
 abbrev pub step_25 : Step
-step_25 = Writes (command_item open_text) 522 true
+step_25 = Writes (command_item open_text) 520 true
 
 abbrev pub step_26 : Step
-step_26 = Turns 523 (asks_of (sent_6 ∷ []) ([]))
+step_26 = Turns 521 (asks_of (sent_8 ∷ []) ([]))
 
 abbrev pub step_28 : Step
-step_28 = Turns 525 (asks_of ([]) ([] ∷ []))
+step_28 = Turns 523 (asks_of ([]) ([] ∷ []))
 
 abbrev pub step_29 : Step
 step_29 = Reads (Some opened_text)
 
 abbrev pub step_30 : Step
-step_30 = Writes (command_item read_text) 526 true
+step_30 = Writes (command_item read_text) 524 true
 
 abbrev pub step_31 : Step
-step_31 = Writes (command_item more_text) 526 true
+step_31 = Writes (command_item more_text) 524 true
 
 abbrev pub step_32 : Step
-step_32 = Turns 527 (asks_of (sent_7 ∷ sent_8 ∷ []) ([]))
+step_32 = Writes (command_item close_text) 524 true
 
-abbrev pub step_36 : Step
-step_36 = Turns 531 (asks_of ([]) ([] ∷ []))
-
-abbrev pub step_37 : Step
-step_37 = Turns 532 (asks_of ([]) ([] ∷ []))
+abbrev pub step_33 : Step
+step_33 = Turns 525 (asks_of (sent_9 ∷ sent_10 ∷ sent_11 ∷ []) ([]))
 
 abbrev pub step_38 : Step
-step_38 = Reads (Some bytes_text)
+step_38 = Turns 530 (asks_of ([]) ([] ∷ []))
 
 abbrev pub step_39 : Step
-step_39 = Reads (Some end_text)
+step_39 = Turns 531 (asks_of ([]) ([] ∷ []))
 
 abbrev pub step_40 : Step
-step_40 = Writes (command_item close_text) 533 true
+step_40 = Reads (Some bytes_text)
 
 abbrev pub step_41 : Step
-step_41 = Turns 534 (asks_of (sent_9 ∷ []) ([]))
+step_41 = Reads (Some end_text)
+
+abbrev pub step_42 : Step
+step_42 = Turns 532 (asks_of ([]) ([] ∷ []))
 
 abbrev pub step_43 : Step
-step_43 = Turns 536 (asks_of ([]) ([] ∷ []))
-
-abbrev pub step_44 : Step
-step_44 = Reads (Some closed_text)
+step_43 = Reads (Some closed_text)
 
 abbrev pub world_0 : Files → List Step → World Files
 world_0 m steps = world_at m engine_0 (sent_0 ∷ []) ([]) server_0 new_serving ([]) steps
@@ -577,124 +577,121 @@ abbrev pub world_4 : Files → List Step → World Files
 world_4 m steps = world_at m engine_3 (sent_2 ∷ []) (sent_0 ∷ sent_1 ∷ []) server_1 served_0 (reply_0 ∷ []) steps
 
 abbrev pub world_5 : Files → List Step → World Files
-world_5 m steps = world_at m engine_4 ([]) (sent_0 ∷ sent_1 ∷ sent_2 ∷ []) server_1 served_0 (reply_0 ∷ []) steps
+world_5 m steps = world_at m engine_4 (sent_2 ∷ sent_3 ∷ []) (sent_0 ∷ sent_1 ∷ []) server_1 served_0 (reply_0 ∷ []) steps
 
 abbrev pub world_6 : Files → List Step → World Files
-world_6 m steps = world_at m engine_4 ([]) (sent_0 ∷ sent_1 ∷ sent_2 ∷ []) server_3 served_1 (reply_0 ∷ reply_1 ∷ []) steps
+world_6 m steps = world_at m engine_5 (sent_2 ∷ sent_3 ∷ sent_4 ∷ []) (sent_0 ∷ sent_1 ∷ []) server_1 served_0 (reply_0 ∷ []) steps
 
 abbrev pub world_7 : Files → List Step → World Files
-world_7 m steps = world_at m engine_4 ([]) (sent_0 ∷ sent_1 ∷ sent_2 ∷ []) server_4 served_1 (reply_0 ∷ reply_1 ∷ reply_2 ∷ []) steps
+world_7 m steps = world_at m engine_6 ([]) (sent_0 ∷ sent_1 ∷ sent_2 ∷ sent_3 ∷ sent_4 ∷ []) server_1 served_0 (reply_0 ∷ []) steps
 
 abbrev pub world_8 : Files → List Step → World Files
-world_8 m steps = world_at m engine_5 ([]) (sent_0 ∷ sent_1 ∷ sent_2 ∷ []) server_4 served_1 (reply_0 ∷ reply_1 ∷ reply_2 ∷ []) steps
+world_8 m steps = world_at m engine_6 ([]) (sent_0 ∷ sent_1 ∷ sent_2 ∷ sent_3 ∷ sent_4 ∷ []) server_3 served_1 (reply_0 ∷ reply_1 ∷ []) steps
 
 abbrev pub world_9 : Files → List Step → World Files
-world_9 m steps = world_at m engine_6 ([]) (sent_0 ∷ sent_1 ∷ sent_2 ∷ []) server_4 served_1 (reply_0 ∷ reply_1 ∷ reply_2 ∷ []) steps
+world_9 m steps = world_at m engine_6 ([]) (sent_0 ∷ sent_1 ∷ sent_2 ∷ sent_3 ∷ sent_4 ∷ []) server_4 served_1 (reply_0 ∷ reply_1 ∷ reply_2 ∷ []) steps
 
 abbrev pub world_10 : Files → List Step → World Files
-world_10 m steps = world_at m engine_7 (sent_3 ∷ []) (sent_0 ∷ sent_1 ∷ sent_2 ∷ []) server_4 served_1 (reply_0 ∷ reply_1 ∷ reply_2 ∷ []) steps
+world_10 m steps = world_at m engine_7 ([]) (sent_0 ∷ sent_1 ∷ sent_2 ∷ sent_3 ∷ sent_4 ∷ []) server_4 served_1 (reply_0 ∷ reply_1 ∷ reply_2 ∷ []) steps
 
 abbrev pub world_11 : Files → List Step → World Files
-world_11 m steps = world_at m engine_8 ([]) (sent_0 ∷ sent_1 ∷ sent_2 ∷ sent_3 ∷ []) server_4 served_1 (reply_0 ∷ reply_1 ∷ reply_2 ∷ []) steps
+world_11 m steps = world_at m engine_8 ([]) (sent_0 ∷ sent_1 ∷ sent_2 ∷ sent_3 ∷ sent_4 ∷ []) server_4 served_1 (reply_0 ∷ reply_1 ∷ reply_2 ∷ []) steps
 
 abbrev pub world_12 : Files → List Step → World Files
-world_12 m steps = world_at m engine_9 ([]) (sent_0 ∷ sent_1 ∷ sent_2 ∷ sent_3 ∷ sent_3 ∷ []) server_4 served_1 (reply_0 ∷ reply_1 ∷ reply_2 ∷ []) steps
+world_12 m steps = world_at m engine_8 ([]) (sent_0 ∷ sent_1 ∷ sent_2 ∷ sent_3 ∷ sent_4 ∷ []) server_5 served_1 (reply_0 ∷ reply_1 ∷ reply_2 ∷ []) steps
 
 abbrev pub world_13 : Files → List Step → World Files
-world_13 m steps = world_at m engine_9 ([]) (sent_0 ∷ sent_1 ∷ sent_2 ∷ sent_3 ∷ sent_3 ∷ []) server_6 served_2 (reply_0 ∷ reply_1 ∷ reply_2 ∷ reply_3 ∷ []) steps
+world_13 m steps = world_at m engine_9 ([]) (sent_0 ∷ sent_1 ∷ sent_2 ∷ sent_3 ∷ sent_4 ∷ []) server_5 served_1 (reply_0 ∷ reply_1 ∷ reply_2 ∷ []) steps
 
 abbrev pub world_14 : Files → List Step → World Files
-world_14 m steps = world_at m engine_10 ([]) (sent_0 ∷ sent_1 ∷ sent_2 ∷ sent_3 ∷ sent_3 ∷ []) server_6 served_2 (reply_0 ∷ reply_1 ∷ reply_2 ∷ reply_3 ∷ []) steps
+world_14 m steps = world_at m engine_10 ([]) (sent_0 ∷ sent_1 ∷ sent_2 ∷ sent_3 ∷ sent_4 ∷ sent_5 ∷ sent_6 ∷ []) server_5 served_1 (reply_0 ∷ reply_1 ∷ reply_2 ∷ []) steps
 
 abbrev pub world_15 : Files → List Step → World Files
-world_15 m steps = world_at m engine_11 ([]) (sent_0 ∷ sent_1 ∷ sent_2 ∷ sent_3 ∷ sent_3 ∷ []) server_6 served_2 (reply_0 ∷ reply_1 ∷ reply_2 ∷ reply_3 ∷ []) steps
+world_15 m steps = world_at m engine_10 ([]) (sent_0 ∷ sent_1 ∷ sent_2 ∷ sent_3 ∷ sent_4 ∷ sent_5 ∷ sent_6 ∷ []) server_7 served_2 (reply_0 ∷ reply_1 ∷ reply_2 ∷ reply_3 ∷ []) steps
 
 abbrev pub world_16 : Files → List Step → World Files
-world_16 m steps = world_at m engine_12 (sent_4 ∷ []) (sent_0 ∷ sent_1 ∷ sent_2 ∷ sent_3 ∷ sent_3 ∷ []) server_6 served_2 (reply_0 ∷ reply_1 ∷ reply_2 ∷ reply_3 ∷ []) steps
+world_16 m steps = world_at m engine_10 ([]) (sent_0 ∷ sent_1 ∷ sent_2 ∷ sent_3 ∷ sent_4 ∷ sent_5 ∷ sent_6 ∷ []) server_8 served_3 (reply_0 ∷ reply_1 ∷ reply_2 ∷ reply_3 ∷ reply_4 ∷ []) steps
 
 abbrev pub world_17 : Files → List Step → World Files
-world_17 m steps = world_at m engine_13 ([]) (sent_0 ∷ sent_1 ∷ sent_2 ∷ sent_3 ∷ sent_3 ∷ sent_4 ∷ []) server_6 served_2 (reply_0 ∷ reply_1 ∷ reply_2 ∷ reply_3 ∷ []) steps
+world_17 m steps = world_at m engine_11 ([]) (sent_0 ∷ sent_1 ∷ sent_2 ∷ sent_3 ∷ sent_4 ∷ sent_5 ∷ sent_6 ∷ []) server_8 served_3 (reply_0 ∷ reply_1 ∷ reply_2 ∷ reply_3 ∷ reply_4 ∷ []) steps
 
 abbrev pub world_18 : Files → List Step → World Files
-world_18 m steps = world_at m engine_13 ([]) (sent_0 ∷ sent_1 ∷ sent_2 ∷ sent_3 ∷ sent_3 ∷ sent_4 ∷ []) server_8 served_3 (reply_0 ∷ reply_1 ∷ reply_2 ∷ reply_3 ∷ reply_4 ∷ []) steps
+world_18 m steps = world_at m engine_12 ([]) (sent_0 ∷ sent_1 ∷ sent_2 ∷ sent_3 ∷ sent_4 ∷ sent_5 ∷ sent_6 ∷ []) server_8 served_3 (reply_0 ∷ reply_1 ∷ reply_2 ∷ reply_3 ∷ reply_4 ∷ []) steps
 
 abbrev pub world_19 : Files → List Step → World Files
-world_19 m steps = world_at m engine_14 ([]) (sent_0 ∷ sent_1 ∷ sent_2 ∷ sent_3 ∷ sent_3 ∷ sent_4 ∷ []) server_8 served_3 (reply_0 ∷ reply_1 ∷ reply_2 ∷ reply_3 ∷ reply_4 ∷ []) steps
+world_19 m steps = world_at m engine_13 ([]) (sent_0 ∷ sent_1 ∷ sent_2 ∷ sent_3 ∷ sent_4 ∷ sent_5 ∷ sent_6 ∷ []) server_8 served_3 (reply_0 ∷ reply_1 ∷ reply_2 ∷ reply_3 ∷ reply_4 ∷ []) steps
 
 abbrev pub world_20 : Files → List Step → World Files
-world_20 m steps = world_at m engine_15 ([]) (sent_0 ∷ sent_1 ∷ sent_2 ∷ sent_3 ∷ sent_3 ∷ sent_4 ∷ []) server_8 served_3 (reply_0 ∷ reply_1 ∷ reply_2 ∷ reply_3 ∷ reply_4 ∷ []) steps
+world_20 m steps = world_at m engine_14 ([]) (sent_0 ∷ sent_1 ∷ sent_2 ∷ sent_3 ∷ sent_4 ∷ sent_5 ∷ sent_6 ∷ []) server_8 served_3 (reply_0 ∷ reply_1 ∷ reply_2 ∷ reply_3 ∷ reply_4 ∷ []) steps
 
 abbrev pub world_21 : Files → List Step → World Files
-world_21 m steps = world_at m engine_16 (sent_5 ∷ []) (sent_0 ∷ sent_1 ∷ sent_2 ∷ sent_3 ∷ sent_3 ∷ sent_4 ∷ []) server_8 served_3 (reply_0 ∷ reply_1 ∷ reply_2 ∷ reply_3 ∷ reply_4 ∷ []) steps
+world_21 m steps = world_at m engine_15 (sent_7 ∷ []) (sent_0 ∷ sent_1 ∷ sent_2 ∷ sent_3 ∷ sent_4 ∷ sent_5 ∷ sent_6 ∷ []) server_8 served_3 (reply_0 ∷ reply_1 ∷ reply_2 ∷ reply_3 ∷ reply_4 ∷ []) steps
 
 abbrev pub world_22 : Files → List Step → World Files
-world_22 m steps = world_at m engine_17 ([]) (sent_0 ∷ sent_1 ∷ sent_2 ∷ sent_3 ∷ sent_3 ∷ sent_4 ∷ sent_5 ∷ []) server_8 served_3 (reply_0 ∷ reply_1 ∷ reply_2 ∷ reply_3 ∷ reply_4 ∷ []) steps
+world_22 m steps = world_at m engine_16 ([]) (sent_0 ∷ sent_1 ∷ sent_2 ∷ sent_3 ∷ sent_4 ∷ sent_5 ∷ sent_6 ∷ sent_7 ∷ []) server_8 served_3 (reply_0 ∷ reply_1 ∷ reply_2 ∷ reply_3 ∷ reply_4 ∷ []) steps
 
 abbrev pub world_23 : Files → List Step → World Files
-world_23 m steps = world_at (stored m) engine_17 ([]) (sent_0 ∷ sent_1 ∷ sent_2 ∷ sent_3 ∷ sent_3 ∷ sent_4 ∷ sent_5 ∷ []) server_10 served_4 (reply_0 ∷ reply_1 ∷ reply_2 ∷ reply_3 ∷ reply_4 ∷ reply_5 ∷ []) steps
+world_23 m steps = world_at (stored m) engine_16 ([]) (sent_0 ∷ sent_1 ∷ sent_2 ∷ sent_3 ∷ sent_4 ∷ sent_5 ∷ sent_6 ∷ sent_7 ∷ []) server_10 served_4 (reply_0 ∷ reply_1 ∷ reply_2 ∷ reply_3 ∷ reply_4 ∷ reply_5 ∷ []) steps
 
 abbrev pub world_24 : Files → List Step → World Files
-world_24 m steps = world_at (stored m) engine_18 ([]) (sent_0 ∷ sent_1 ∷ sent_2 ∷ sent_3 ∷ sent_3 ∷ sent_4 ∷ sent_5 ∷ []) server_10 served_4 (reply_0 ∷ reply_1 ∷ reply_2 ∷ reply_3 ∷ reply_4 ∷ reply_5 ∷ []) steps
+world_24 m steps = world_at (stored m) engine_17 ([]) (sent_0 ∷ sent_1 ∷ sent_2 ∷ sent_3 ∷ sent_4 ∷ sent_5 ∷ sent_6 ∷ sent_7 ∷ []) server_10 served_4 (reply_0 ∷ reply_1 ∷ reply_2 ∷ reply_3 ∷ reply_4 ∷ reply_5 ∷ []) steps
 
 abbrev pub world_25 : Files → List Step → World Files
-world_25 m steps = world_at (stored m) engine_19 ([]) (sent_0 ∷ sent_1 ∷ sent_2 ∷ sent_3 ∷ sent_3 ∷ sent_4 ∷ sent_5 ∷ []) server_10 served_4 (reply_0 ∷ reply_1 ∷ reply_2 ∷ reply_3 ∷ reply_4 ∷ reply_5 ∷ []) steps
+world_25 m steps = world_at (stored m) engine_18 ([]) (sent_0 ∷ sent_1 ∷ sent_2 ∷ sent_3 ∷ sent_4 ∷ sent_5 ∷ sent_6 ∷ sent_7 ∷ []) server_10 served_4 (reply_0 ∷ reply_1 ∷ reply_2 ∷ reply_3 ∷ reply_4 ∷ reply_5 ∷ []) steps
 
 abbrev pub world_26 : Files → List Step → World Files
-world_26 m steps = world_at (stored m) engine_20 (sent_6 ∷ []) (sent_0 ∷ sent_1 ∷ sent_2 ∷ sent_3 ∷ sent_3 ∷ sent_4 ∷ sent_5 ∷ []) server_10 served_4 (reply_0 ∷ reply_1 ∷ reply_2 ∷ reply_3 ∷ reply_4 ∷ reply_5 ∷ []) steps
+world_26 m steps = world_at (stored m) engine_19 (sent_8 ∷ []) (sent_0 ∷ sent_1 ∷ sent_2 ∷ sent_3 ∷ sent_4 ∷ sent_5 ∷ sent_6 ∷ sent_7 ∷ []) server_10 served_4 (reply_0 ∷ reply_1 ∷ reply_2 ∷ reply_3 ∷ reply_4 ∷ reply_5 ∷ []) steps
 
 abbrev pub world_27 : Files → List Step → World Files
-world_27 m steps = world_at (stored m) engine_21 ([]) (sent_0 ∷ sent_1 ∷ sent_2 ∷ sent_3 ∷ sent_3 ∷ sent_4 ∷ sent_5 ∷ sent_6 ∷ []) server_10 served_4 (reply_0 ∷ reply_1 ∷ reply_2 ∷ reply_3 ∷ reply_4 ∷ reply_5 ∷ []) steps
+world_27 m steps = world_at (stored m) engine_20 ([]) (sent_0 ∷ sent_1 ∷ sent_2 ∷ sent_3 ∷ sent_4 ∷ sent_5 ∷ sent_6 ∷ sent_7 ∷ sent_8 ∷ []) server_10 served_4 (reply_0 ∷ reply_1 ∷ reply_2 ∷ reply_3 ∷ reply_4 ∷ reply_5 ∷ []) steps
 
 abbrev pub world_28 : Files → List Step → World Files
-world_28 m steps = world_at (stored m) engine_21 ([]) (sent_0 ∷ sent_1 ∷ sent_2 ∷ sent_3 ∷ sent_3 ∷ sent_4 ∷ sent_5 ∷ sent_6 ∷ []) server_12 served_5 (reply_0 ∷ reply_1 ∷ reply_2 ∷ reply_3 ∷ reply_4 ∷ reply_5 ∷ reply_6 ∷ []) steps
+world_28 m steps = world_at (stored m) engine_20 ([]) (sent_0 ∷ sent_1 ∷ sent_2 ∷ sent_3 ∷ sent_4 ∷ sent_5 ∷ sent_6 ∷ sent_7 ∷ sent_8 ∷ []) server_12 served_5 (reply_0 ∷ reply_1 ∷ reply_2 ∷ reply_3 ∷ reply_4 ∷ reply_5 ∷ reply_6 ∷ []) steps
 
 abbrev pub world_29 : Files → List Step → World Files
-world_29 m steps = world_at (stored m) engine_22 ([]) (sent_0 ∷ sent_1 ∷ sent_2 ∷ sent_3 ∷ sent_3 ∷ sent_4 ∷ sent_5 ∷ sent_6 ∷ []) server_12 served_5 (reply_0 ∷ reply_1 ∷ reply_2 ∷ reply_3 ∷ reply_4 ∷ reply_5 ∷ reply_6 ∷ []) steps
+world_29 m steps = world_at (stored m) engine_21 ([]) (sent_0 ∷ sent_1 ∷ sent_2 ∷ sent_3 ∷ sent_4 ∷ sent_5 ∷ sent_6 ∷ sent_7 ∷ sent_8 ∷ []) server_12 served_5 (reply_0 ∷ reply_1 ∷ reply_2 ∷ reply_3 ∷ reply_4 ∷ reply_5 ∷ reply_6 ∷ []) steps
 
 abbrev pub world_30 : Files → List Step → World Files
-world_30 m steps = world_at (stored m) engine_23 ([]) (sent_0 ∷ sent_1 ∷ sent_2 ∷ sent_3 ∷ sent_3 ∷ sent_4 ∷ sent_5 ∷ sent_6 ∷ []) server_12 served_5 (reply_0 ∷ reply_1 ∷ reply_2 ∷ reply_3 ∷ reply_4 ∷ reply_5 ∷ reply_6 ∷ []) steps
+world_30 m steps = world_at (stored m) engine_22 ([]) (sent_0 ∷ sent_1 ∷ sent_2 ∷ sent_3 ∷ sent_4 ∷ sent_5 ∷ sent_6 ∷ sent_7 ∷ sent_8 ∷ []) server_12 served_5 (reply_0 ∷ reply_1 ∷ reply_2 ∷ reply_3 ∷ reply_4 ∷ reply_5 ∷ reply_6 ∷ []) steps
 
 abbrev pub world_31 : Files → List Step → World Files
-world_31 m steps = world_at (stored m) engine_24 (sent_7 ∷ []) (sent_0 ∷ sent_1 ∷ sent_2 ∷ sent_3 ∷ sent_3 ∷ sent_4 ∷ sent_5 ∷ sent_6 ∷ []) server_12 served_5 (reply_0 ∷ reply_1 ∷ reply_2 ∷ reply_3 ∷ reply_4 ∷ reply_5 ∷ reply_6 ∷ []) steps
+world_31 m steps = world_at (stored m) engine_23 (sent_9 ∷ []) (sent_0 ∷ sent_1 ∷ sent_2 ∷ sent_3 ∷ sent_4 ∷ sent_5 ∷ sent_6 ∷ sent_7 ∷ sent_8 ∷ []) server_12 served_5 (reply_0 ∷ reply_1 ∷ reply_2 ∷ reply_3 ∷ reply_4 ∷ reply_5 ∷ reply_6 ∷ []) steps
 
 abbrev pub world_32 : Files → List Step → World Files
-world_32 m steps = world_at (stored m) engine_25 (sent_7 ∷ sent_8 ∷ []) (sent_0 ∷ sent_1 ∷ sent_2 ∷ sent_3 ∷ sent_3 ∷ sent_4 ∷ sent_5 ∷ sent_6 ∷ []) server_12 served_5 (reply_0 ∷ reply_1 ∷ reply_2 ∷ reply_3 ∷ reply_4 ∷ reply_5 ∷ reply_6 ∷ []) steps
+world_32 m steps = world_at (stored m) engine_24 (sent_9 ∷ sent_10 ∷ []) (sent_0 ∷ sent_1 ∷ sent_2 ∷ sent_3 ∷ sent_4 ∷ sent_5 ∷ sent_6 ∷ sent_7 ∷ sent_8 ∷ []) server_12 served_5 (reply_0 ∷ reply_1 ∷ reply_2 ∷ reply_3 ∷ reply_4 ∷ reply_5 ∷ reply_6 ∷ []) steps
 
 abbrev pub world_33 : Files → List Step → World Files
-world_33 m steps = world_at (stored m) engine_26 ([]) (sent_0 ∷ sent_1 ∷ sent_2 ∷ sent_3 ∷ sent_3 ∷ sent_4 ∷ sent_5 ∷ sent_6 ∷ sent_7 ∷ sent_8 ∷ []) server_12 served_5 (reply_0 ∷ reply_1 ∷ reply_2 ∷ reply_3 ∷ reply_4 ∷ reply_5 ∷ reply_6 ∷ []) steps
+world_33 m steps = world_at (stored m) engine_25 (sent_9 ∷ sent_10 ∷ sent_11 ∷ []) (sent_0 ∷ sent_1 ∷ sent_2 ∷ sent_3 ∷ sent_4 ∷ sent_5 ∷ sent_6 ∷ sent_7 ∷ sent_8 ∷ []) server_12 served_5 (reply_0 ∷ reply_1 ∷ reply_2 ∷ reply_3 ∷ reply_4 ∷ reply_5 ∷ reply_6 ∷ []) steps
 
 abbrev pub world_34 : Files → List Step → World Files
-world_34 m steps = world_at (stored m) engine_26 ([]) (sent_0 ∷ sent_1 ∷ sent_2 ∷ sent_3 ∷ sent_3 ∷ sent_4 ∷ sent_5 ∷ sent_6 ∷ sent_7 ∷ sent_8 ∷ []) server_13 served_5 (reply_0 ∷ reply_1 ∷ reply_2 ∷ reply_3 ∷ reply_4 ∷ reply_5 ∷ reply_6 ∷ []) steps
+world_34 m steps = world_at (stored m) engine_26 ([]) (sent_0 ∷ sent_1 ∷ sent_2 ∷ sent_3 ∷ sent_4 ∷ sent_5 ∷ sent_6 ∷ sent_7 ∷ sent_8 ∷ sent_9 ∷ sent_10 ∷ sent_11 ∷ []) server_12 served_5 (reply_0 ∷ reply_1 ∷ reply_2 ∷ reply_3 ∷ reply_4 ∷ reply_5 ∷ reply_6 ∷ []) steps
 
 abbrev pub world_35 : Files → List Step → World Files
-world_35 m steps = world_at (stored m) engine_26 ([]) (sent_0 ∷ sent_1 ∷ sent_2 ∷ sent_3 ∷ sent_3 ∷ sent_4 ∷ sent_5 ∷ sent_6 ∷ sent_7 ∷ sent_8 ∷ []) server_15 served_6 (reply_0 ∷ reply_1 ∷ reply_2 ∷ reply_3 ∷ reply_4 ∷ reply_5 ∷ reply_6 ∷ reply_7 ∷ []) steps
+world_35 m steps = world_at (stored m) engine_26 ([]) (sent_0 ∷ sent_1 ∷ sent_2 ∷ sent_3 ∷ sent_4 ∷ sent_5 ∷ sent_6 ∷ sent_7 ∷ sent_8 ∷ sent_9 ∷ sent_10 ∷ sent_11 ∷ []) server_13 served_5 (reply_0 ∷ reply_1 ∷ reply_2 ∷ reply_3 ∷ reply_4 ∷ reply_5 ∷ reply_6 ∷ []) steps
 
 abbrev pub world_36 : Files → List Step → World Files
-world_36 m steps = world_at (stored m) engine_26 ([]) (sent_0 ∷ sent_1 ∷ sent_2 ∷ sent_3 ∷ sent_3 ∷ sent_4 ∷ sent_5 ∷ sent_6 ∷ sent_7 ∷ sent_8 ∷ []) server_16 served_6 (reply_0 ∷ reply_1 ∷ reply_2 ∷ reply_3 ∷ reply_4 ∷ reply_5 ∷ reply_6 ∷ reply_7 ∷ reply_8 ∷ []) steps
+world_36 m steps = world_at (stored m) engine_26 ([]) (sent_0 ∷ sent_1 ∷ sent_2 ∷ sent_3 ∷ sent_4 ∷ sent_5 ∷ sent_6 ∷ sent_7 ∷ sent_8 ∷ sent_9 ∷ sent_10 ∷ sent_11 ∷ []) server_15 served_6 (reply_0 ∷ reply_1 ∷ reply_2 ∷ reply_3 ∷ reply_4 ∷ reply_5 ∷ reply_6 ∷ reply_7 ∷ []) steps
 
 abbrev pub world_37 : Files → List Step → World Files
-world_37 m steps = world_at (stored m) engine_27 ([]) (sent_0 ∷ sent_1 ∷ sent_2 ∷ sent_3 ∷ sent_3 ∷ sent_4 ∷ sent_5 ∷ sent_6 ∷ sent_7 ∷ sent_8 ∷ []) server_16 served_6 (reply_0 ∷ reply_1 ∷ reply_2 ∷ reply_3 ∷ reply_4 ∷ reply_5 ∷ reply_6 ∷ reply_7 ∷ reply_8 ∷ []) steps
+world_37 m steps = world_at (stored m) engine_26 ([]) (sent_0 ∷ sent_1 ∷ sent_2 ∷ sent_3 ∷ sent_4 ∷ sent_5 ∷ sent_6 ∷ sent_7 ∷ sent_8 ∷ sent_9 ∷ sent_10 ∷ sent_11 ∷ []) server_16 served_6 (reply_0 ∷ reply_1 ∷ reply_2 ∷ reply_3 ∷ reply_4 ∷ reply_5 ∷ reply_6 ∷ reply_7 ∷ reply_8 ∷ []) steps
 
 abbrev pub world_38 : Files → List Step → World Files
-world_38 m steps = world_at (stored m) engine_28 ([]) (sent_0 ∷ sent_1 ∷ sent_2 ∷ sent_3 ∷ sent_3 ∷ sent_4 ∷ sent_5 ∷ sent_6 ∷ sent_7 ∷ sent_8 ∷ []) server_16 served_6 (reply_0 ∷ reply_1 ∷ reply_2 ∷ reply_3 ∷ reply_4 ∷ reply_5 ∷ reply_6 ∷ reply_7 ∷ reply_8 ∷ []) steps
+world_38 m steps = world_at (stored m) engine_26 ([]) (sent_0 ∷ sent_1 ∷ sent_2 ∷ sent_3 ∷ sent_4 ∷ sent_5 ∷ sent_6 ∷ sent_7 ∷ sent_8 ∷ sent_9 ∷ sent_10 ∷ sent_11 ∷ []) server_18 served_7 (reply_0 ∷ reply_1 ∷ reply_2 ∷ reply_3 ∷ reply_4 ∷ reply_5 ∷ reply_6 ∷ reply_7 ∷ reply_8 ∷ reply_9 ∷ []) steps
 
 abbrev pub world_39 : Files → List Step → World Files
-world_39 m steps = world_at (stored m) engine_29 ([]) (sent_0 ∷ sent_1 ∷ sent_2 ∷ sent_3 ∷ sent_3 ∷ sent_4 ∷ sent_5 ∷ sent_6 ∷ sent_7 ∷ sent_8 ∷ []) server_16 served_6 (reply_0 ∷ reply_1 ∷ reply_2 ∷ reply_3 ∷ reply_4 ∷ reply_5 ∷ reply_6 ∷ reply_7 ∷ reply_8 ∷ []) steps
+world_39 m steps = world_at (stored m) engine_27 ([]) (sent_0 ∷ sent_1 ∷ sent_2 ∷ sent_3 ∷ sent_4 ∷ sent_5 ∷ sent_6 ∷ sent_7 ∷ sent_8 ∷ sent_9 ∷ sent_10 ∷ sent_11 ∷ []) server_18 served_7 (reply_0 ∷ reply_1 ∷ reply_2 ∷ reply_3 ∷ reply_4 ∷ reply_5 ∷ reply_6 ∷ reply_7 ∷ reply_8 ∷ reply_9 ∷ []) steps
 
 abbrev pub world_40 : Files → List Step → World Files
-world_40 m steps = world_at (stored m) engine_30 ([]) (sent_0 ∷ sent_1 ∷ sent_2 ∷ sent_3 ∷ sent_3 ∷ sent_4 ∷ sent_5 ∷ sent_6 ∷ sent_7 ∷ sent_8 ∷ []) server_16 served_6 (reply_0 ∷ reply_1 ∷ reply_2 ∷ reply_3 ∷ reply_4 ∷ reply_5 ∷ reply_6 ∷ reply_7 ∷ reply_8 ∷ []) steps
+world_40 m steps = world_at (stored m) engine_28 ([]) (sent_0 ∷ sent_1 ∷ sent_2 ∷ sent_3 ∷ sent_4 ∷ sent_5 ∷ sent_6 ∷ sent_7 ∷ sent_8 ∷ sent_9 ∷ sent_10 ∷ sent_11 ∷ []) server_18 served_7 (reply_0 ∷ reply_1 ∷ reply_2 ∷ reply_3 ∷ reply_4 ∷ reply_5 ∷ reply_6 ∷ reply_7 ∷ reply_8 ∷ reply_9 ∷ []) steps
 
 abbrev pub world_41 : Files → List Step → World Files
-world_41 m steps = world_at (stored m) engine_31 (sent_9 ∷ []) (sent_0 ∷ sent_1 ∷ sent_2 ∷ sent_3 ∷ sent_3 ∷ sent_4 ∷ sent_5 ∷ sent_6 ∷ sent_7 ∷ sent_8 ∷ []) server_16 served_6 (reply_0 ∷ reply_1 ∷ reply_2 ∷ reply_3 ∷ reply_4 ∷ reply_5 ∷ reply_6 ∷ reply_7 ∷ reply_8 ∷ []) steps
+world_41 m steps = world_at (stored m) engine_29 ([]) (sent_0 ∷ sent_1 ∷ sent_2 ∷ sent_3 ∷ sent_4 ∷ sent_5 ∷ sent_6 ∷ sent_7 ∷ sent_8 ∷ sent_9 ∷ sent_10 ∷ sent_11 ∷ []) server_18 served_7 (reply_0 ∷ reply_1 ∷ reply_2 ∷ reply_3 ∷ reply_4 ∷ reply_5 ∷ reply_6 ∷ reply_7 ∷ reply_8 ∷ reply_9 ∷ []) steps
 
 abbrev pub world_42 : Files → List Step → World Files
-world_42 m steps = world_at (stored m) engine_32 ([]) (sent_0 ∷ sent_1 ∷ sent_2 ∷ sent_3 ∷ sent_3 ∷ sent_4 ∷ sent_5 ∷ sent_6 ∷ sent_7 ∷ sent_8 ∷ sent_9 ∷ []) server_16 served_6 (reply_0 ∷ reply_1 ∷ reply_2 ∷ reply_3 ∷ reply_4 ∷ reply_5 ∷ reply_6 ∷ reply_7 ∷ reply_8 ∷ []) steps
+world_42 m steps = world_at (stored m) engine_30 ([]) (sent_0 ∷ sent_1 ∷ sent_2 ∷ sent_3 ∷ sent_4 ∷ sent_5 ∷ sent_6 ∷ sent_7 ∷ sent_8 ∷ sent_9 ∷ sent_10 ∷ sent_11 ∷ []) server_18 served_7 (reply_0 ∷ reply_1 ∷ reply_2 ∷ reply_3 ∷ reply_4 ∷ reply_5 ∷ reply_6 ∷ reply_7 ∷ reply_8 ∷ reply_9 ∷ []) steps
 
 abbrev pub world_43 : Files → List Step → World Files
-world_43 m steps = world_at (stored m) engine_32 ([]) (sent_0 ∷ sent_1 ∷ sent_2 ∷ sent_3 ∷ sent_3 ∷ sent_4 ∷ sent_5 ∷ sent_6 ∷ sent_7 ∷ sent_8 ∷ sent_9 ∷ []) server_18 served_7 (reply_0 ∷ reply_1 ∷ reply_2 ∷ reply_3 ∷ reply_4 ∷ reply_5 ∷ reply_6 ∷ reply_7 ∷ reply_8 ∷ reply_9 ∷ []) steps
+world_43 m steps = world_at (stored m) engine_31 ([]) (sent_0 ∷ sent_1 ∷ sent_2 ∷ sent_3 ∷ sent_4 ∷ sent_5 ∷ sent_6 ∷ sent_7 ∷ sent_8 ∷ sent_9 ∷ sent_10 ∷ sent_11 ∷ []) server_18 served_7 (reply_0 ∷ reply_1 ∷ reply_2 ∷ reply_3 ∷ reply_4 ∷ reply_5 ∷ reply_6 ∷ reply_7 ∷ reply_8 ∷ reply_9 ∷ []) steps
 
 abbrev pub world_44 : Files → List Step → World Files
-world_44 m steps = world_at (stored m) engine_33 ([]) (sent_0 ∷ sent_1 ∷ sent_2 ∷ sent_3 ∷ sent_3 ∷ sent_4 ∷ sent_5 ∷ sent_6 ∷ sent_7 ∷ sent_8 ∷ sent_9 ∷ []) server_18 served_7 (reply_0 ∷ reply_1 ∷ reply_2 ∷ reply_3 ∷ reply_4 ∷ reply_5 ∷ reply_6 ∷ reply_7 ∷ reply_8 ∷ reply_9 ∷ []) steps
-
-abbrev pub world_45 : Files → List Step → World Files
-world_45 m steps = world_at (stored m) engine_34 ([]) (sent_0 ∷ sent_1 ∷ sent_2 ∷ sent_3 ∷ sent_3 ∷ sent_4 ∷ sent_5 ∷ sent_6 ∷ sent_7 ∷ sent_8 ∷ sent_9 ∷ []) server_18 served_7 (reply_0 ∷ reply_1 ∷ reply_2 ∷ reply_3 ∷ reply_4 ∷ reply_5 ∷ reply_6 ∷ reply_7 ∷ reply_8 ∷ reply_9 ∷ []) steps
+world_44 m steps = world_at (stored m) engine_32 ([]) (sent_0 ∷ sent_1 ∷ sent_2 ∷ sent_3 ∷ sent_4 ∷ sent_5 ∷ sent_6 ∷ sent_7 ∷ sent_8 ∷ sent_9 ∷ sent_10 ∷ sent_11 ∷ []) server_18 served_7 (reply_0 ∷ reply_1 ∷ reply_2 ∷ reply_3 ∷ reply_4 ∷ reply_5 ∷ reply_6 ∷ reply_7 ∷ reply_8 ∷ reply_9 ∷ []) steps

@@ -314,4 +314,4 @@ module _ {S : Type 0} (contents : S → Option Files) (may_give : S → List ℕ
 
   pub file_systems_serve : FileSystemsServe contents may_give count m
   file_systems_serve s f a c story name operations st client named can talks =
-      operations_among m f a c story name operations st.reached client named can talks
+      (operations_among m f a c story name operations st.reached client named can talks).0

@@ -24,7 +24,7 @@ use Rattle.file_client.specs.Talk.{Step, Calls as Asks, Writes, Reads, Turns, ta
 use Rattle.file_lab.specs.Bodies.{data_bodies}
 use Rattle.file_net.specs.FileNet.{FileNet, FileEvent, FileRun, FileReached}
 use Rattle.file_net.specs.Users.{said_in, heard_in}
-use Rattle.file_copy.specs.Operation.{all_commands, all_replies, commands_of, replies_of}
+use Rattle.file_copy.specs.Operation.{Operation, all_commands, all_replies, commands_of, replies_of}
 use Rattle.file_net.specs.Operations.{IsClient, IsReady, Talks}
 use Rattle.file_net.proofs.Clients.{login_among, operation_among, operations_among}
 use Rattle.file_net.proofs.Done.{operation_alike}
@@ -102,6 +102,16 @@ received_more (step ∷ more) steps =
     heard_more (talk_of (more ++ steps)) step ∙ ap (λ l. l ++ heard_of step) (received_more more steps)
     ∙ append_assoc (talk_of steps).received (talk_of more).received (heard_of step)
     ∙ ap (λ l. (talk_of steps).received ++ l) (sym (heard_more (talk_of more) step))
+
+-- there are as many replies as commands
+pub all_alike : (operations : List Operation) → length (all_replies operations) ≡ length (all_commands operations)
+all_alike [] = refl
+all_alike (operation ∷ operations) =
+    let one = length-append (replies_of operation) (all_replies operations) in
+    let two = length-append (commands_of operation) (all_commands operations) in
+    let same = operation_alike operation in
+    let rest = all_alike operations in
+    omega (arith, one, two, same, rest)
 
 -- ---- a move
 
@@ -243,8 +253,12 @@ module _ {S : Type 0} (contents : S → Option Files) (may_give : S → List ℕ
             (sym (all_said commands replies talk ∙ ap (λ l. l ++ commands) unsaid))
             (login_among m g a c is.calling.story user reached_now client_now good (first_talks commands replies unsaid unheard talk)));
         session = λ user operations unsaid unheard good can talk.
-            operations_among m g a c is.calling.story user operations reached_now client_now good can
-            (first_talks (login_command user ∷ all_commands operations) (login_reply user ∷ all_replies operations) unsaid unheard talk);
+            let commands = login_command user ∷ all_commands operations in
+            let replies = login_reply user ∷ all_replies operations in
+            let alike : length (heard_by f a) ≡ length (said_by f a) = ap length unheard ∙ ap length (sym unsaid) in
+            let both = operations_among m g a c is.calling.story user operations reached_now client_now good can
+            (first_talks commands replies unsaid unheard talk) in
+            (both.0, ready_is_idle m g a c is.calling.story reached_now client_now user (answered commands replies talk alike (ap suc (all_alike operations))) (subst (λ l. IsReady m g c l user) (sym (all_said commands replies talk ∙ ap (λ l. l ++ commands) unsaid)) both.1));
       }
 
     lasts : (k : ℕ) (w : World S) (g : FileNet) → FileStandsFor contents m (system_of w) g → Since w g

@@ -6,49 +6,49 @@
 --   3                                                    0 comes, a turn: the request is accepted
 --                                  <-- 0, OPN --
 --   4  0 comes, a turn             -- 1, STS -->         never comes
---   5  writes LOGIN
+--   5  writes LOGIN, OPEN WRITE and WRITE
 --   6  a turn                      -- 2, LOGIN -->
+--                                  -- 3, OPEN -->        never comes
+--                                  -- 4, WRITE -->
 --   7                                                    2 comes, a turn: LOGIN is served
 --                                  <-- 1, the reply --
 --   8                                                    2 comes again, a turn
 --      never comes                 <-- 2, STS --
 --   9  1 comes, a turn; reads the reply to LOGIN
---  10  writes OPEN WRITE
---  11  a turn                      -- 3, OPEN -->        never comes
--- 511  a turn                      -- 4, OPEN again -->
--- 512                                                    4 comes, a turn: OPEN is served
+--  10                                                    4 comes, a turn
+--  11  a turn
+-- 511  a turn                      -- 5, OPEN again -->
+--                                  -- 6, WRITE again --> never comes
+-- 512                                                    5 comes, a turn: OPEN is served
 --                                  <-- 3, the reply --
--- 513  3 comes, a turn; reads the reply to OPEN
--- 514  writes WRITE
--- 515  a turn                      -- 5, WRITE -->
--- 516                                                    5 comes, a turn: WRITE is served
+-- 513                                                    a turn: WRITE is served
 --                                  <-- 4, the reply --
--- 517  4 comes, a turn; reads the reply to WRITE
--- 518  writes CLOSE
--- 519  a turn                      -- 6, CLOSE -->
--- 520                                                    6 comes, a turn: CLOSE is served, and the file is there
+-- 514  4 comes, a turn
+-- 515  3 comes late, a turn; reads the replies to OPEN and to WRITE
+-- 516  writes CLOSE
+-- 517  a turn                      -- 7, CLOSE -->
+-- 518                                                    7 comes, a turn: CLOSE is served, and the file is there
 --                                  <-- 5, the reply --
--- 521  5 comes, a turn; reads the reply to CLOSE
--- 522  writes OPEN READ
--- 523  a turn                      -- 7, OPEN -->
--- 524                                                    7 comes, a turn: OPEN is served
+-- 519  5 comes, a turn; reads the reply to CLOSE
+-- 520  writes OPEN READ
+-- 521  a turn                      -- 8, OPEN -->
+-- 522                                                    8 comes, a turn: OPEN is served
 --                                  <-- 6, the reply --
--- 525  6 comes, a turn; reads the reply to OPEN
--- 526  writes READ, and READ
--- 527  a turn                      -- 8, READ -->
---                                  -- 9, READ -->
--- 528                                                    9 comes, a turn
--- 529                                                    8 comes late, a turn: the first READ is served
+-- 523  6 comes, a turn; reads the reply to OPEN
+-- 524  writes READ, READ and CLOSE
+-- 525  a turn                      -- 9, READ -->
+--                                  -- 10, READ -->
+--                                  -- 11, CLOSE -->
+-- 526                                                    10 comes, a turn
+-- 527                                                    9 comes late, a turn: the first READ is served
 --                                  <-- 7, the bytes --
--- 530                                                    a turn: the second READ is served
+-- 528                                                    a turn: the second READ is served
 --                                  <-- 8, EOF --
--- 531  8 comes, a turn
--- 532  7 comes late, a turn; reads the bytes, and EOF
--- 533  writes CLOSE
--- 534  a turn                      -- 10, CLOSE -->
--- 535                                                    10 comes, a turn: CLOSE is served
+-- 529                                                    11 comes, a turn: CLOSE is served
 --                                  <-- 9, the reply --
--- 536  9 comes, a turn; reads the reply to CLOSE
+-- 530  8 comes, a turn
+-- 531  7 comes late, a turn; reads the bytes, and EOF
+-- 532  9 comes, a turn; reads the reply to CLOSE
 use Rattle.std.specs.Prelude.{◌≡◌, ℕ, true, false, List, [], ◌∷◌, ◌++◌, Option, Some, None, codes, ⊤}
 use Rattle.chaos_file.specs.declared.limits.TheConstants.{MAX_NAME}
 use Rattle.chaos_file.specs.Names.{is_name}
@@ -65,8 +65,8 @@ use Rattle.file_client.specs.Caller.{asked}
 use Rattle.file_client.specs.Pace.{Pace, clock_pace, usual_timing}
 use Rattle.file_copy.specs.Talk.{Talked}
 use Rattle.file_client.specs.Talk.{Anything, Says, command_item, talker, Writes as EngineWrites, Reads as EngineReads, Turns as EngineTurns}
-use Rattle.file_copy.specs.Operation.{Operation, Get, Put, CanDo, CanDoAll, commands_of, replies_of}
-use Rattle.file_net.specs.Operations.{IsDone}
+use Rattle.file_copy.specs.Operation.{Operation, Get, Put, CanDo, CanDoAll, all_commands, all_replies, commands_of, replies_of}
+use Rattle.file_net.specs.Operations.{AreDone, IsDone}
 use Rattle.file_net.specs.FileNet.{FileNet, FileEvent, FileRun}
 use Rattle.file_end_to_end.specs.Beginning.{IsFinished, asking_world, asks_in}
 use Rattle.file_end_to_end.specs.Over.{session_talk}
@@ -135,57 +135,52 @@ get_copy = Get (tids_from 4) file_handle path bytes
 abbrev pub opening : List Line
 opening = Turns 2 None ∷ Serves (Some 0) 300 3 ∷ Turns 4 (Some 0) ∷ []
 
-abbrev pub login : List Line
-login =
+abbrev pub putting : List Line
+putting =
     Writes (login_command user) 5
+    ∷ Writes (spelling_of (tids_from 1 0) file_handle (OpenWrite path)) 5
+    ∷ Writes (spelling_of (tids_from 1 1) file_handle (Write bytes)) 5
     ∷ Turns 6 None
     ∷ Serves (Some 2) 0 7
     ∷ Serves (Some 2) 0 8
     ∷ Turns 9 (Some 1)
     ∷ Reads (login_reply user)
-    ∷ []
-
-abbrev pub putting : List Line
-putting =
-    Writes (spelling_of (tids_from 1 0) file_handle (OpenWrite path)) 10
+    ∷ Serves (Some 4) 0 10
     ∷ Turns 11 None
     ∷ Turns 511 None
-    ∷ Serves (Some 4) 0 512
-    ∷ Turns 513 (Some 3)
+    ∷ Serves (Some 5) 0 512
+    ∷ Serves None 0 513
+    ∷ Turns 514 (Some 4)
+    ∷ Turns 515 (Some 3)
     ∷ Reads (reply_of (tids_from 1 0) file_handle (Opened 0))
-    ∷ Writes (spelling_of (tids_from 1 1) file_handle (Write bytes)) 514
-    ∷ Turns 515 None
-    ∷ Serves (Some 5) 0 516
-    ∷ Turns 517 (Some 4)
     ∷ Reads (reply_of (tids_from 1 1) file_handle (Wrote 2))
-    ∷ Writes (spelling_of (tids_from 1 2) file_handle Close) 518
-    ∷ Turns 519 None
-    ∷ Serves (Some 6) 0 520
-    ∷ Turns 521 (Some 5)
+    ∷ Writes (spelling_of (tids_from 1 2) file_handle Close) 516
+    ∷ Turns 517 None
+    ∷ Serves (Some 7) 0 518
+    ∷ Turns 519 (Some 5)
     ∷ Reads (reply_of (tids_from 1 2) file_handle (Closed 2))
     ∷ []
 
 abbrev pub getting : List Line
 getting =
-    Writes (spelling_of (tids_from 4 0) file_handle (OpenRead path)) 522
-    ∷ Turns 523 None
-    ∷ Serves (Some 7) 0 524
-    ∷ Turns 525 (Some 6)
+    Writes (spelling_of (tids_from 4 0) file_handle (OpenRead path)) 520
+    ∷ Turns 521 None
+    ∷ Serves (Some 8) 0 522
+    ∷ Turns 523 (Some 6)
     ∷ Reads (reply_of (tids_from 4 0) file_handle (Opened 2))
-    ∷ Writes (spelling_of (tids_from 4 1) file_handle Read) 526
-    ∷ Writes (spelling_of (tids_from 4 2) file_handle Read) 526
-    ∷ Turns 527 None
-    ∷ Serves (Some 9) 0 528
-    ∷ Serves (Some 8) 0 529
-    ∷ Serves None 0 530
-    ∷ Turns 531 (Some 8)
-    ∷ Turns 532 (Some 7)
+    ∷ Writes (spelling_of (tids_from 4 1) file_handle Read) 524
+    ∷ Writes (spelling_of (tids_from 4 2) file_handle Read) 524
+    ∷ Writes (spelling_of (tids_from 4 3) file_handle Close) 524
+    ∷ Turns 525 None
+    ∷ Serves (Some 10) 0 526
+    ∷ Serves (Some 9) 0 527
+    ∷ Serves None 0 528
+    ∷ Serves (Some 11) 0 529
+    ∷ Turns 530 (Some 8)
+    ∷ Turns 531 (Some 7)
     ∷ Reads (reply_of (tids_from 4 1) file_handle (Given bytes))
     ∷ Reads (reply_of (tids_from 4 2) file_handle AtEnd)
-    ∷ Writes (spelling_of (tids_from 4 3) file_handle Close) 533
-    ∷ Turns 534 None
-    ∷ Serves (Some 10) 0 535
-    ∷ Turns 536 (Some 9)
+    ∷ Turns 532 (Some 9)
     ∷ Reads (reply_of (tids_from 4 3) file_handle (Closed 2))
     ∷ []
 
@@ -194,7 +189,7 @@ abbrev pub operations : List Operation
 operations = put_copy ∷ get_copy ∷ []
 
 abbrev pub lines : List Line
-lines = opening ++ (login ++ (putting ++ getting))
+lines = opening ++ (putting ++ getting)
 
 -- the same world, whose steps are counted from now on
 abbrev pub from_now : World Files → World Files
@@ -229,21 +224,15 @@ pub record FileIsGot (m : Files) : Type 0 where
   pub a : Name
   pub c : Name
   pub calling : IsCalling ready open_net a c
-  -- the user logs in
-  pub logged : World Files
-  pub logged_net : FileNet
-  pub logs_in : AllLead m (from_now ready) open_net login logged logged_net
-  pub said : IsTalk logged.steps (login_command user ∷ []) (login_reply user ∷ [])
-  pub idle : IsIdle logged_net a c user
-  -- the file is put
+  -- the user logs in, and the file is put
   pub put : World Files
   pub put_net : FileNet
-  pub puts : AllLead m (from_now logged) logged_net putting put put_net
-  pub put_talk : IsTalk put.steps (commands_of put_copy) (replies_of put_copy)
-  pub put_says : Says pace Anything logged.client (talk_for put_copy) put.client
+  pub puts : AllLead m (from_now ready) open_net putting put put_net
+  pub put_talk : IsTalk put.steps (login_command user ∷ all_commands (put_copy ∷ [])) (login_reply user ∷ all_replies (put_copy ∷ []))
+  pub put_says : Says pace Anything ready.client (session_talk user (put_copy ∷ [])) put.client
   pub put_steps : put_says.talks.steps ≡ put.steps
   pub can_put : CanDo put_copy
-  pub is_put : IsDone m put_net.history c (said_by logged_net a) put_copy
+  pub is_put : AreDone m put_net.history c (login_command user ∷ []) (put_copy ∷ [])
   pub idle_then : IsIdle put_net a c user
   -- the file is got
   pub got : World Files

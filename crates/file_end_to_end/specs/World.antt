@@ -152,11 +152,11 @@ pub record IsServed {S : Type 0} (m : Files) (f : FileNet) (a c : Name) (w : Wor
   pub logged : (user : List ℕ) → said_by f a ≡ [] → heard_by f a ≡ [] → is_name 1 MAX_NAME user ≡ true
       → IsTalk w.steps (login_command user ∷ []) (login_reply user ∷ []) → IsIdle g a c user
   -- If the engine wrote LOGIN and then the commands of operations, and nothing before, and read exactly the replies, then all
-  -- these operations are done.
+  -- these operations are done, and the user is idle.
   pub session : (user : List ℕ) (operations : List Operation) → said_by f a ≡ [] → heard_by f a ≡ [] → is_name 1 MAX_NAME user ≡ true
       → CanDoAll operations
       → IsTalk w.steps (login_command user ∷ all_commands operations) (login_reply user ∷ all_replies operations)
-      → AreDone m g.history c (login_command user ∷ []) operations
+      → AreDone m g.history c (login_command user ∷ []) operations × IsIdle g a c user
 
 module _ {S : Type 0} (contents : S → Option Files) (may_give : S → List ℕ → ℕ → List ℕ → Type 0) (count : S → ℕ)
     (m : Files) (p : Pace) where

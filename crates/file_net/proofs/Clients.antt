@@ -121,8 +121,8 @@ module _ (m : Files) (f : FileNet) (a c : Name) (s : Story) (name : List ℕ) (r
     (client : IsClient f a s c) where
   all_done : (operations : List Operation) (earlier replies : List (List ℕ)) → CanDoAll operations
       → Talks s earlier replies (all_commands operations) (all_replies operations) → IsReady m f c earlier name
-      → AreDone m f.history c earlier operations
-  all_done [] earlier replies can t ready = tt
+      → AreDone m f.history c earlier operations × IsReady m f c (earlier ++ all_commands operations) name
+  all_done [] earlier replies can t ready = (tt, subst (λ l. IsReady m f c l name) (sym (append-nil earlier)) ready)
   all_done (operation ∷ operations) earlier replies can t ready =
       let first : Talks s earlier replies (commands_of operation) (replies_of operation) = record {
         more_said = all_commands operations ++ t.more_said;
@@ -143,7 +143,10 @@ module _ (m : Files) (f : FileNet) (a c : Name) (s : Story) (name : List ℕ) (r
         heard = first.heard ∙ sym (append_assoc replies (replies_of operation) (all_replies operations ++ t.more_heard));
         alike = omega (arith, both, two, same, alike);
       } in
-      (one.0, all_done operations (earlier ++ commands_of operation) (replies ++ replies_of operation) can.1 rest one.1)
+      let next = all_done operations (earlier ++ commands_of operation) (replies ++ replies_of operation) can.1 rest one.1 in (
+        (one.0, next.0),
+        subst (λ l. IsReady m f c l name) (append_assoc earlier (commands_of operation) (all_commands operations)) next.1,
+      )
 
 pub operations_among : OperationsAmongOthers
 operations_among m f a c s name operations r client named can t =

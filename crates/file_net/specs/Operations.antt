@@ -135,13 +135,14 @@ AreDone m history c earlier (operation ∷ operations) =
 -- success. Each file that the client got was the file at that path at the moment of the OPEN. Each file that the client put became
 -- the file at that path, whole, at the moment of the CLOSE and by the CLOSE alone. Each DELETE took the file at its path away, and
 -- each RENAME moved the file at its old path to its new path, at the moment of that command and by that command alone. All this
--- holds whatever other clients did meanwhile. The client may write and read more after that.
+-- holds whatever other clients did meanwhile. After the operations the client is ready for another operation, and may write and read
+-- more.
 abbrev pub OperationsAmongOthers : Type 0
 OperationsAmongOthers =
     (m : Files) (f : FileNet) (a c : Name) (s : Story) (name : List ℕ) (operations : List Operation)
     → FileReached m f → IsClient f a s c → is_name 1 MAX_NAME name ≡ true → CanDoAll operations
     → Talks s [] [] (login_command name ∷ all_commands operations) (login_reply name ∷ all_replies operations)
-    → AreDone m f.history c (login_command name ∷ []) operations
+    → AreDone m f.history c (login_command name ∷ []) operations × IsReady m f c (login_command name ∷ all_commands operations) name
 
 -- One operation of a client that is ready for an operation. After the operation the client is ready for another operation.
 abbrev pub OperationAmongOthers : Type 0

@@ -1,18 +1,23 @@
 -- How a copy ends.
-use Rattle.std.proofs.Common.{inl, inr, sym, subst, ap, ◌∙◌}
+use Rattle.std.proofs.Common.{inl, inr, refl, sym, subst, ap, ◌∙◌}
 use Rattle.std.specs.Prelude.{◌≡◌, ℕ, Bool, true, false, List, Ok, Err, Result, IfOk, IfErr, OnErr, OnOk, MatchResult}
 use Rattle.chaos_node.specs.declared.fault.NodeFault.{NodeFault}
 use Rattle.file_copy.specs.declared.end.CopyEnd.{CopyEnd}
 use Rattle.file_copy.specs.declared.end.CopyEnd.TheVariants as e
 use Rattle.file_copy.specs.Ends.{IfDone}
 use Rattle.file_copy.specs.Talk.{History}
+use Rattle.file_copy.specs.User.{user_talked}
+use Rattle.file_copy.specs.declared.talk.Talk as t
+use Rattle.file_copy.specs.declared.login.Login.TheVariants as login
+use Rattle.file_copy.specs.declared.user.UserTalk.{UserTalk}
 use Rattle.file_copy.specs.Operation.{Operation}
 use Rattle.file_transfer.specs.Sessions.{Does, Enters, EntersAnd, Stays}
-use Rattle.file_transfer.specs.Settling.{is_done, is_replied}
+use Rattle.file_transfer.specs.Settling.{change_end, is_done, is_replied}
 use Rattle.file_transfer.specs.declared.outcome.Outcome.{Outcome}
 use Rattle.file_transfer.specs.declared.outcome.Outcome.TheVariants as o
 use Rattle.file_transfer.specs.declared.outcome.Contents.{Contents}
 use Rattle.file_transfer.specs.Outcome.{is_well, MatchCopied}
+use Rattle.file_transfer.proofs.Entering.{entered_did}
 
 -- what follows from what holds of a file that was copied
 pub done_then : (end : Result CopyEnd NodeFault) (P Q : Type 0) → (P → Q) → IfDone end P → IfDone end Q
@@ -48,15 +53,15 @@ settled_then end (Ok x) a b P done same h =
 settled_then end (Err x) a b P done same h = tt
 
 -- what was done over a talk that was entered
-pub settled_behind : {T F G : Type 0} (talked : T → History T) (connects : T → T → Type 0) (is_in : Bool) (name : List ℕ)
-    (old entered : T) (operation : Operation) (end : Result CopyEnd NodeFault) (r : Result G F) (a b : T)
-    → OnOk r (end ≡ Ok e.Done) → OnOk r (b ≡ a) → Enters talked connects is_in name old entered
-    → IfDone end (Does talked operation entered a)
-    → OnOk r (EntersAnd talked connects is_in name old operation b)
-settled_behind talked connects is_in name old entered operation end r a b done same was does =
-    settled_then end r a b (EntersAnd talked connects is_in name old operation) done same
-    (done_then end (Does talked operation entered a) (EntersAnd talked connects is_in name old operation a)
-    (λ d. (entered, was, d)) does)
+pub settled_behind : {T F G : Type 0} {ghosts : t.Ghosts T} (talked : T → History T) (connects : T → T → Type 0) (is_in : Bool)
+    (user : List ℕ) (old begun : UserTalk T ghosts) (operation : Operation) (end : Result CopyEnd NodeFault) (r : Result G F)
+    (a b : UserTalk T ghosts) → OnOk r (end ≡ Ok e.Done) → OnOk r (b ≡ a) → (is_in ≡ true → old.login ≡ login.Done)
+    → Enters connects is_in user old begun → IfDone end (Does (user_talked talked) operation begun a)
+    → OnOk r (EntersAnd talked connects is_in user old.talk operation b.talk)
+settled_behind talked connects is_in user old begun operation end r a b done same inside was does =
+    settled_then end r a b (λ u. EntersAnd talked connects is_in user old.talk operation u.talk) done same
+    (done_then end (Does (user_talked talked) operation begun a) (EntersAnd talked connects is_in user old.talk operation a.talk)
+    (λ d. entered_did talked connects is_in user old begun a operation inside was d) does)
 
 -- a session stays open where its copy was done
 pub settled_in : {F G : Type 0} (end : Result CopyEnd NodeFault) (r : Result G F) (is_in : Bool) → is_in ≡ is_done end
@@ -64,11 +69,36 @@ pub settled_in : {F G : Type 0} (end : Result CopyEnd NodeFault) (r : Result G F
 settled_in end (Ok x) is_in stays done = stays ∙ ap is_done done
 settled_in end (Err x) is_in stays done = tt
 
+-- a change that is done is done however its missing reply is taken
+changed : (end : Result CopyEnd NodeFault) → change_end end ≡ Ok e.Done → end ≡ Ok e.Done
+changed (Ok e.Done) h = refl
+changed (Ok (e.Refused reply)) h = absurd (cc)
+changed (Ok (e.Strange reply)) h = absurd (cc)
+changed (Ok e.Unanswered) h = absurd (cc)
+changed (Ok e.Unknown) h = absurd (cc)
+changed (Err fault) h = absurd (cc)
+
+-- what went well is a change that was made
+made : {F G : Type 0} (end changes : Result CopyEnd NodeFault) (r : Result G F) → changes ≡ change_end end
+    → OnOk r (changes ≡ Ok e.Done) → OnOk r (end ≡ Ok e.Done)
+made end changes (Ok x) is done = changed end (sym is ∙ done)
+made end changes (Err x) is done = tt
+
+-- what a change did over a talk that was entered
+pub changed_behind : {T F G : Type 0} {ghosts : t.Ghosts T} (talked : T → History T) (connects : T → T → Type 0) (is_in : Bool)
+    (user : List ℕ) (old begun : UserTalk T ghosts) (operation : Operation) (end changes : Result CopyEnd NodeFault) (r : Result G F)
+    (a b : UserTalk T ghosts) → changes ≡ change_end end → OnOk r (changes ≡ Ok e.Done) → OnOk r (b ≡ a)
+    → (is_in ≡ true → old.login ≡ login.Done) → Enters connects is_in user old begun
+    → IfDone end (Does (user_talked talked) operation begun a)
+    → OnOk r (EntersAnd talked connects is_in user old.talk operation b.talk)
+changed_behind talked connects is_in user old begun operation end changes r a b is done same inside was does =
+    settled_behind talked connects is_in user old begun operation end r a b (made end changes r is done) same inside was does
+
 -- and where its change was made
-pub changed_in : {F G : Type 0} (end : Result CopyEnd NodeFault) (r : Result G F) (is_in : Bool) → is_in ≡ is_replied end
-    → OnOk r (end ≡ Ok e.Done) → OnOk r (is_in ≡ true)
-changed_in end (Ok x) is_in stays done = stays ∙ ap is_replied done
-changed_in end (Err x) is_in stays done = tt
+pub changed_in : {F G : Type 0} (end changes : Result CopyEnd NodeFault) (r : Result G F) (is_in : Bool) → changes ≡ change_end end
+    → is_in ≡ is_replied end → OnOk r (changes ≡ Ok e.Done) → OnOk r (is_in ≡ true)
+changed_in end changes (Ok x) is_in is stays done = stays ∙ ap is_replied (changed end (sym is ∙ done))
+changed_in end changes (Err x) is_in is stays done = tt
 
 -- who is logged in after a try did one operation
 pub stays_done : {T A F : Type 0} (talked : T → History T) (connects : T → T → Type 0) (was_in : Bool) (user : List ℕ) (old : T)

@@ -1,4 +1,5 @@
 mod Running
+mod Entering
 mod Ending
 pub mod Sessions
 mod Tried

@@ -48,18 +48,6 @@ module _ {T : Type 0} (talked : T → History T) (connects : T → T → Type 0)
         (since_then (talked asked) (talked old) (talked new) (login_command user ∷ all_commands operations) (login_reply user ∷ all_replies operations) (commands_of operation) (replies_of operation) before made)),
   )
 
-  -- a user who enters and does one operation begins a session, or goes on with one
-  pub begun : (old new : T) (operation : Operation) → EntersAnd talked connects false user old operation new
-      → HasDone talked connects user old (operation ∷ []) new
-  begun old new operation (entered, has, does) = session_on old entered new [] operation has does
-
-  pub gone_on : (start old new : T) (operations : List Operation) (operation : Operation)
-      → HasDone talked connects user start operations old → EntersAnd talked connects true user old operation new
-      → HasDone talked connects user start (operations ++ operation ∷ []) new
-  gone_on start old new operations operation has (entered, same, does) =
-      session_on start old new operations operation has
-      (subst (λ t. Since (talked t) (talked new) (commands_of operation) (replies_of operation)) same does)
-
 -- ---- runs over files
 
 for_each_on : {F : Type 0} (One : F → Operation → Type 0) (files : List F) (operations : List Operation) (file : F)
@@ -96,14 +84,13 @@ module _ {T C F : Type 0} (talked : T → History T) (connects : T → T → Typ
       → user c ≡ user start → EntersAnd talked connects (is_in c) (user c) (talk c) operation (talk d) → is_in d ≡ true
       → InSession (operations ++ operation ∷ []) d
   session_after [] c d operation (same, out) named enters inside = (
-    begun talked connects (user start) (talk start) (talk d) operation
-        (subst (λ t. EntersAnd talked connects false (user start) t operation (talk d)) same
+    subst (λ t. EntersAnd talked connects false (user start) t operation (talk d)) same
         (subst (λ u. EntersAnd talked connects false u (talk c) operation (talk d)) named
-        (subst (λ b. EntersAnd talked connects b (user c) (talk c) operation (talk d)) out enters))),
+        (subst (λ b. EntersAnd talked connects b (user c) (talk c) operation (talk d)) out enters)),
     inside,
   )
   session_after (first ∷ operations) c d operation (has, within) named enters inside = (
-    gone_on talked connects (user start) (talk start) (talk c) (talk d) (first ∷ operations) operation has
+    session_on talked connects (user start) (talk start) (talk c) (talk d) (first ∷ operations) operation has
         (subst (λ u. EntersAnd talked connects true u (talk c) operation (talk d)) named
         (subst (λ b. EntersAnd talked connects b (user c) (talk c) operation (talk d)) within enters)),
     inside,
@@ -171,9 +158,8 @@ module _ {T C F : Type 0} (talked : T → History T) (connects : T → T → Typ
       earlier = files;
       began = c;
       tried = before;
-      has = begun talked connects (user start) (talk c) now operation
-          (subst (λ u. EntersAnd talked connects false u (talk c) operation now) known.1
-          (subst (λ z. EntersAnd talked connects z (user c) (talk c) operation now) is enters));
+      has = subst (λ u. EntersAnd talked connects false u (talk c) operation now) known.1
+          (subst (λ z. EntersAnd talked connects z (user c) (talk c) operation now) is enters);
     },
   )
   one_more files c now operation true is before known enters =
@@ -183,7 +169,7 @@ module _ {T C F : Type 0} (talked : T → History T) (connects : T → T → Typ
           earlier = ran.1.earlier;
           began = ran.1.began;
           tried = ran.1.tried;
-          has = gone_on talked connects (user start) (talk ran.1.began) (talk c) now ran.0 operation ran.1.has
+          has = session_on talked connects (user start) (talk ran.1.began) (talk c) now ran.0 operation ran.1.has
               (subst (λ u. EntersAnd talked connects true u (talk c) operation now) known.1
               (subst (λ z. EntersAnd talked connects z (user c) (talk c) operation now) is enters));
         },

@@ -32,7 +32,7 @@ module _ {T L V : Type 0} {talk : t.Ghosts T} {sink : o.Ghosts V} (talked : T �
   RunsGet tries = (old new : GetFiles T L V talk sink) (name : Bor (List ℕ) → List ℕ) (before after : Option (List Reported))
       (paths : List (Bor (List ℕ))) (severity : Severity) (goes : Bool)
       → Runs tries name old before paths severity goes new after → is_done severity ≡ true → old.session.is_in ≡ false
-      → AllDone talked connects IsGet old.session.login.now old.session.talk paths new.session.talk
+      → AllDone talked connects IsGet old.session.login.now old.session.user.talk paths new.session.user.talk
 
   -- Whatever came of the files before it, a file that is reported as copied was got, as the last operation of a session of the run.
   abbrev pub RunGot : (GetFiles T L V talk sink → Bor (List ℕ) → Outcome → GetFiles T L V talk sink → Type 0) → Type 0
@@ -40,23 +40,23 @@ module _ {T L V : Type 0} {talk : t.Ghosts T} {sink : o.Ghosts V} (talked : T �
       (contents : Contents)
       → Tries tries old before true between → tries between path (Copied contents) new → old.session.is_in ≡ false
       → (operations : List Operation) × (bytes : List ℕ)
-      × RanIn talked connects tries (λ g. g.session.talk) old.session.login.now old (operations ++ get_of path.now bytes ∷ [])
-      new.session.talk
+      × RanIn talked connects tries (λ g. g.session.user.talk) old.session.login.now old (operations ++ get_of path.now bytes ∷ [])
+      new.session.user.talk
 
   -- The same of a run that puts these files.
   abbrev pub RunsPut : (PutFiles T L V talk sink → PutFile → Outcome → PutFiles T L V talk sink → Type 0) → Type 0
   RunsPut tries = (old new : PutFiles T L V talk sink) (name : PutFile → List ℕ) (before after : Option (List Reported))
       (files : List PutFile) (severity : Severity) (goes : Bool)
       → Runs tries name old before files severity goes new after → is_done severity ≡ true → old.session.is_in ≡ false
-      → AllDone talked connects IsPut old.session.login.now old.session.talk files new.session.talk
+      → AllDone talked connects IsPut old.session.login.now old.session.user.talk files new.session.user.talk
 
   abbrev pub RunPut : (PutFiles T L V talk sink → PutFile → Outcome → PutFiles T L V talk sink → Type 0) → Type 0
   RunPut tries = (old between new : PutFiles T L V talk sink) (before : List (Tried PutFile)) (file : PutFile)
       (contents : Contents)
       → Tries tries old before true between → tries between file (Copied contents) new → old.session.is_in ≡ false
       → (operations : List Operation) × (path bytes : List ℕ) × (option_map (λ p. p.items) file.path ≡ Some path)
-      × RanIn talked connects tries (λ g. g.session.talk) old.session.login.now old (operations ++ put_of path bytes ∷ [])
-      new.session.talk
+      × RanIn talked connects tries (λ g. g.session.user.talk) old.session.login.now old (operations ++ put_of path bytes ∷ [])
+      new.session.user.talk
 
 module _ {T V : Type 0} {talk : t.Ghosts T} {sink : o.Ghosts V} (talked : T → History T) (connects : T → T → Type 0) where
   -- The same of a run that deletes these paths.
@@ -64,4 +64,4 @@ module _ {T V : Type 0} {talk : t.Ghosts T} {sink : o.Ghosts V} (talked : T → 
   RunsDelete tries = (old new : DeleteFiles T V talk sink) (name : Bor (List ℕ) → List ℕ) (before after : Option (List Reported))
       (paths : List (Bor (List ℕ))) (severity : Severity) (goes : Bool)
       → Runs tries name old before paths severity goes new after → is_done severity ≡ true → old.session.is_in ≡ false
-      → AllDone talked connects IsDelete old.session.login.now old.session.talk paths new.session.talk
+      → AllDone talked connects IsDelete old.session.login.now old.session.user.talk paths new.session.user.talk

@@ -1,12 +1,15 @@
 -- What a user did over a connection.
 --
---    start -- asks for a connection --> asked -- LOGIN --> entered -- operation, operation, .. --> now
+--    start -- asks for a connection --> asked -- LOGIN, operation, operation, .. --> now
 use Rattle.std.specs.Prelude.{◌≡◌, ◌⊎◌, ℕ, Bool, true, false, List, [], ◌∷◌, Some, option_map, ⊤}
 use Rattle.std.specs.Borrow.{Bor}
 use Rattle.file_copy.specs.Ends.{login_command, login_reply, tids_from}
 use Rattle.file_copy.specs.Operation.{Operation, Delete, Get, Put, Rename, all_commands, all_replies, commands_of, replies_of}
 use Rattle.file_copy.specs.Row.{file_handle}
 use Rattle.file_copy.specs.Talk.{History, Since}
+use Rattle.file_copy.specs.declared.talk.Talk as t
+use Rattle.file_copy.specs.declared.login.Login.TheVariants.{Unsent}
+use Rattle.file_copy.specs.declared.user.UserTalk.{UserTalk}
 use Rattle.file_names.specs.declared.put_file.PutFile.{PutFile}
 
 -- ---- the operations on one file, whose transaction ids begin at 1
@@ -29,6 +32,11 @@ rename_of old new = Rename 1 old new
 abbrev pub Does : {T : Type 0} → (T → History T) → Operation → T → T → Type 0
 Does talked operation old new = Since (talked old) (talked new) (commands_of operation) (replies_of operation)
 
+-- A user who is logged in does nothing. Any other user asks for a connection, over which the LOGIN wasn't sent.
+abbrev pub Enters : {T : Type 0} {ghosts : t.Ghosts T} → (T → T → Type 0) → Bool → List ℕ → UserTalk T ghosts → UserTalk T ghosts → Type 0
+Enters connects true user old new = new ≡ old
+Enters connects false user old new = connects old.talk new.talk × (new.login ≡ Unsent) × (new.name.now ≡ user)
+
 module _ {T : Type 0} (talked : T → History T) (connects : T → T → Type 0) where
   -- From the first state on a connection was asked for, the user logged in over the connection, and exactly these operations were
   -- done.
@@ -36,14 +44,10 @@ module _ {T : Type 0} (talked : T → History T) (connects : T → T → Type 0)
   HasDone user start operations now = (asked : T) × connects start asked
       × Since (talked asked) (talked now) (login_command user ∷ all_commands operations) (login_reply user ∷ all_replies operations)
 
-  -- A user who is logged in does nothing. Any other user asks for a connection, and then logs in.
-  abbrev pub Enters : Bool → List ℕ → T → T → Type 0
-  Enters true user old new = new ≡ old
-  Enters false user old new = HasDone user old [] new
-
-  -- The user enters, and then does this operation and nothing else.
+  -- A user who is logged in does this operation and nothing else. Any other user asks for a connection, logs in, and does this operation.
   abbrev pub EntersAnd : Bool → List ℕ → T → Operation → T → Type 0
-  EntersAnd is_in user old operation new = (entered : T) × Enters is_in user old entered × Does talked operation entered new
+  EntersAnd true user old operation new = Does talked operation old new
+  EntersAnd false user old operation new = HasDone user old (operation ∷ []) new
 
   -- All these operations were done in one session. Without an operation nothing was done.
   abbrev pub DoesAll : List ℕ → T → List Operation → T → Type 0

@@ -23,8 +23,8 @@ impl<'a, T: Talk, V: ProgressSink> FileTask for DeleteFiles<'a, T, V> {
     /// A file is reported as changed only where the user entered, and then sent exactly its DELETE
     /// and received exactly that it was done. The name by which the user logs in stays.
     ghost tries = { λ old path outcome new. MatchChanged outcome
-        (EntersAnd T.talked T.connects old.session.is_in old.session.login.now old.session.talk
-        (delete_of path.now) new.session.talk × (new.session.is_in ≡ true))
+        (EntersAnd T.talked T.connects old.session.is_in old.session.login.now old.session.user.talk
+        (delete_of path.now) new.session.user.talk × (new.session.is_in ≡ true))
         × (new.session.login ≡ old.session.login) };
 
     fn try_file(&mut self, path: &&'a str) -> Outcome {

@@ -45,12 +45,12 @@ impl<T: Talk, L: LocalFiles, V: ProgressSink> GetFiles<'_, T, L, V> {
         ensures got { IfOk result
             (λ v. (bytes : List ℕ)
             × EntersAnd T.talked T.connects self.old.session.is_in self.old.session.login.now
-            self.old.session.talk (get_of path.now bytes) self.new.session.talk
+            self.old.session.user.talk (get_of path.now bytes) self.new.session.user.talk
             × (v.items ≡ bytes_in Charset.Ascii self.old.is_text bytes)) }
         ensures inside { OnOk result (self.new.session.is_in ≡ true) }
         ensures stays { Stays T.talked T.connects self.old.session.is_in
-            self.old.session.login.now self.old.session.talk self.new.session.is_in
-            self.new.session.talk }
+            self.old.session.login.now self.old.session.user.talk self.new.session.is_in
+            self.new.session.user.talk }
         ensures same_login { self.new.session.login ≡ self.old.session.login }
         ensures missed { IfErr result (λ outcome. is_well outcome ≡ false) }
         ensures same { (self.new.locals ≡ self.old.locals)
@@ -92,14 +92,14 @@ impl<T: Talk, L: LocalFiles, V: ProgressSink> GetFiles<'_, T, L, V> {
         ensures got { IfOk result
             (λ contents. GetsWhole
             (λ bytes. EntersAnd T.talked T.connects self.old.session.is_in
-            self.old.session.login.now self.old.session.talk (get_of path.now bytes)
-            self.new.session.talk)
+            self.old.session.login.now self.old.session.user.talk (get_of path.now bytes)
+            self.new.session.user.talk)
             local.now self.old.is_text self.old.is_digested contents
             (L.written self.old.locals) (L.written self.new.locals)) }
         ensures inside { OnOk result (self.new.session.is_in ≡ true) }
         ensures stays { Stays T.talked T.connects self.old.session.is_in
-            self.old.session.login.now self.old.session.talk self.new.session.is_in
-            self.new.session.talk }
+            self.old.session.login.now self.old.session.user.talk self.new.session.is_in
+            self.new.session.user.talk }
         ensures same_login { self.new.session.login ≡ self.old.session.login }
         ensures failed { OnErr result (L.written self.new.locals ≡ L.written self.old.locals) }
         ensures missed { IfErr result (λ outcome. is_well outcome ≡ false) }
@@ -131,13 +131,13 @@ impl<'a, T: Talk, L: LocalFiles, V: ProgressSink> FileTask for GetFiles<'a, T, L
     ghost tries = { λ old path outcome new. MatchCopied outcome
         (λ contents. GetsWhole
         (λ bytes. EntersAnd T.talked T.connects old.session.is_in old.session.login.now
-        old.session.talk (get_of path.now bytes) new.session.talk)
+        old.session.user.talk (get_of path.now bytes) new.session.user.talk)
         (local_of old.destination path.now) old.is_text old.is_digested contents
         (L.written old.locals) (L.written new.locals)
         × (new.session.is_in ≡ true))
         (L.written new.locals ≡ L.written old.locals)
-        × Stays T.talked T.connects old.session.is_in old.session.login.now old.session.talk
-        new.session.is_in new.session.talk
+        × Stays T.talked T.connects old.session.is_in old.session.login.now old.session.user.talk
+        new.session.is_in new.session.user.talk
         × ((new.session.login ≡ old.session.login) × (new.destination ≡ old.destination) × (new.is_text ≡ old.is_text)
         × (new.is_digested ≡ old.is_digested)) };
 

@@ -31,7 +31,7 @@ pub struct PutFiles<'a, T: Talk, L: LocalFiles, V: ProgressSink> {
 impl<T: Talk, L: LocalFiles, V: ProgressSink> PutFiles<'_, T, L, V> {
     /// Reports a text whose lines end by returns, as no Lisp machine ends them.
     fn report_returns(&mut self, local: &str, bytes: &[u8])
-        ensures { (self.new.session.talk ≡ self.old.session.talk)
+        ensures { (self.new.session.user.talk ≡ self.old.session.user.talk)
             × (self.new.session.login ≡ self.old.session.login)
             × (self.new.session.is_in ≡ self.old.session.is_in)
             × (self.new.is_text ≡ self.old.is_text)
@@ -49,14 +49,14 @@ impl<T: Talk, L: LocalFiles, V: ProgressSink> PutFiles<'_, T, L, V> {
         requires fits { length bytes.items ≤ MAX_FILE }
         ensures put { IfOk result
             (λ contents. EntersAnd T.talked T.connects self.old.session.is_in
-            self.old.session.login.now self.old.session.talk
+            self.old.session.login.now self.old.session.user.talk
             (put_of path.now (bytes_in Charset.LispMachine self.old.is_text bytes.items))
-            self.new.session.talk
+            self.new.session.user.talk
             × (contents ≡ contents_of self.old.is_digested bytes.items)) }
         ensures inside { OnOk result (self.new.session.is_in ≡ true) }
         ensures stays { Stays T.talked T.connects self.old.session.is_in
-            self.old.session.login.now self.old.session.talk self.new.session.is_in
-            self.new.session.talk }
+            self.old.session.login.now self.old.session.user.talk self.new.session.is_in
+            self.new.session.user.talk }
         ensures missed { IfErr result (λ outcome. is_well outcome ≡ false) }
         ensures same { (self.new.session.login ≡ self.old.session.login)
             × (self.new.is_text ≡ self.old.is_text)
@@ -82,12 +82,12 @@ impl<'a, T: Talk, L: LocalFiles, V: ProgressSink> FileTask for PutFiles<'a, T, L
         (λ contents. (path : List ℕ) × (option_map (λ p. p.items) file.path ≡ Some path)
         × PutsWhole
         (λ bytes. EntersAnd T.talked T.connects old.session.is_in old.session.login.now
-        old.session.talk (put_of path bytes) new.session.talk)
+        old.session.user.talk (put_of path bytes) new.session.user.talk)
         (L.held old.locals file.local.now) old.is_text old.is_digested contents
         × (new.session.is_in ≡ true))
         (Unit {0})
-        × Stays T.talked T.connects old.session.is_in old.session.login.now old.session.talk
-        new.session.is_in new.session.talk
+        × Stays T.talked T.connects old.session.is_in old.session.login.now old.session.user.talk
+        new.session.is_in new.session.user.talk
         × ((new.session.login ≡ old.session.login) × (new.is_text ≡ old.is_text) × (new.is_digested ≡ old.is_digested)) };
 
     /// The file is read whole before anything is sent.

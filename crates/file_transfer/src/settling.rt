@@ -1,5 +1,5 @@
 //! What came of a file, by how its copy ended.
-ghost use Rattle.std.specs.Prelude.{◌≡◌, false, IfErr, OnOk, Ok};
+ghost use Rattle.std.specs.Prelude.{◌≡◌, false, true, IfErr, OnOk, Ok};
 ghost use Rattle.file_transfer.specs.Settling.{ComesTo, change_end, is_done, is_replied};
 ghost use Rattle.file_transfer.specs.Outcome.{is_well};
 
@@ -20,8 +20,8 @@ pub fn settle<T: Talk>(talk: &mut T, end: Result<CopyEnd, NodeFault>) -> Result<
     ensures done { OnOk result (end ≡ Ok CopyEnd.Done) }
     // Otherwise what came of it is no success.
     ensures missed { IfErr result (λ outcome. is_well outcome ≡ false) }
-    // Where it is well, the talk is as it was.
-    ensures still { OnOk result (talk.new ≡ talk.old) }
+    // Where a reply came, the talk is as it was.
+    ensures still { is_replied end ≡ true → talk.new ≡ talk.old }
 {
     match end {
         Ok(CopyEnd::Done) => Ok(()),

@@ -1,29 +1,24 @@
 use Rattle.std.proofs.Common.{◌∙◌, rules, arith, subst, true, false, ◌≡◌, ◌+◌, length, [], ◌∷◌}
 use Rattle.std.specs.Fmt.{decimal}
 use Rattle.chaos_file.specs.Answer.{Closed}
-use Rattle.chaos_file.specs.Command.{OpenWrite, Close}
+use Rattle.chaos_file.specs.Command.{Close}
 use Rattle.chaos_file.specs.Spelling.{spelling_of}
 use Rattle.file_copy.specs.Copy.{reply_of}
 use Rattle.file_copy.specs.Talk.{Since, SentOrNot, taken}
 use Rattle.file_copy.specs.Row.{file_handle}
-use Rattle.file_copy.proofs.Joined.{copied_then, when_copied, put_joined}
+use Rattle.file_copy.proofs.Joined.{copied_then, when_copied}
 use Rattle.file_copy.proofs.Talks.{wanted_received}
-use Rattle.file_copy.proofs.Begun.{put_opening, put_writing, put_closing}
-use Rattle.file_copy.proofs.Ended.{unless, put_not_opened, put_not_written, put_not_closed, put_ended_unanswered, is_received}
+use Rattle.file_copy.proofs.Ended.{unless, is_received}
+use Rattle.file_copy.proofs.Puts.{put_closing, put_done, put_ended_unanswered, put_not_closed, put_not_written, put_writing, put_written}
 use Rattle.file_copy.proofs.Quiet.{unanswered_by, unanswered_waited, where_none}
 use Rattle.file_copy.proofs.put.put_file.Goals as goal
 
 pub returns-clause-done : goal.returns-clause-done
 returns-clause-done g c =
-    let a = g.T.Talk.talked c.args.talk.now in
-    let b = g.T.Talk.talked c.ask_one.new.talk in
     let m = g.T.Talk.talked c.write_all.new.talk in
     let d = g.T.Talk.talked c.ask_telling.new.talk in
-    copied_then _ _ _ (λ e. put_joined a b m d c.args.first c.args.path.now c.args.bytes.now
-    (wanted_received
-    (λ x. Since a b (spelling_of (decimal c.args.first) file_handle (OpenWrite c.args.path.now) ∷ []) (x ∷ []))
-    (taken c.in_ok-came.came c.ask_one.new.reply.items) _ _ c.in-Done.ensures.done c.write_wanted.ensures c.in_ok-came.ensures.received)
-    (when_copied _ _ c.in-Done-2.is c.in_ok-end.ensures.done)
+    copied_then _ _ _ (λ e. put_done _ m d c.args.first c.args.path.now c.args.bytes.now
+    (put_written _ m c.args.first c.args.path.now c.args.bytes.now (when_copied _ _ c.in-Done.is c.in_ok-end.ensures.done))
     (subst
     (λ n. Since m d (spelling_of (decimal (c.args.first + 1 + n)) file_handle Close ∷ [])
     (reply_of (decimal (c.args.first + 1 + n)) file_handle (Closed (length c.args.bytes.now)) ∷ []))
@@ -31,50 +26,27 @@ returns-clause-done g c =
     (wanted_received
     (λ x. Since m d (spelling_of (decimal (c.args.first + 1 + c.chunk_count.result)) file_handle Close ∷ [])
     (x ∷ []))
-    (taken c.in_ok-came-2.came c.ask_telling.new.reply.items) _ _ e c.write_wanted-2.ensures c.in_ok-came-2.ensures.received))) c.settled-2.ensures.done
+    (taken c.in_ok-came.came c.ask_telling.new.reply.items) _ _ e c.write_wanted.ensures c.in_ok-came.ensures.received)))
+    c.settled.ensures.done
+
+pub returns-in_err-end-clause-begun : goal.returns-in_err-end-clause-begun
+returns-in_err-end-clause-begun g c = put_writing _ _ c.args.first c.args.path.now c.args.bytes.now c.write_all.ensures.sent
+
+pub returns-in_default : goal.returns-in_default
+returns-in_default g c = record {
+  done = search rules;
+  ended = put_not_written _ _ c.args.first c.args.path.now c.args.bytes.now c.in_ok-end.end c.in_ok-end.ensures.ended;
+  waited = c.in_ok-end.ensures.waited;
+  unfailed = c.in_ok-end.ensures.unfailed;
+  patient = c.write_all.ensures.patient;
+  faults = tt;
+  begun = put_writing _ _ c.args.first c.args.path.now c.args.bytes.now c.write_all.ensures.sent;
+}
 
 pub returns-in_err-came-clause-begun : goal.returns-in_err-came-clause-begun
 returns-in_err-came-clause-begun g c =
-    put_opening _ _ c.args.first c.args.path.now c.args.bytes.now c.ask_one.ensures.sent
-
-pub returns-in_err-end-clause-begun : goal.returns-in_err-end-clause-begun
-returns-in_err-end-clause-begun g c =
-    put_writing _ _ _ c.args.first c.args.path.now c.args.bytes.now _
-    (wanted_received
-    (λ x. Since (g.T.Talk.talked c.args.talk.now) (g.T.Talk.talked c.ask_one.new.talk)
-    (spelling_of (decimal c.args.first) file_handle (OpenWrite c.args.path.now) ∷ []) (x ∷ []))
-    (taken c.in_ok-came.came c.ask_one.new.reply.items) _ _ c.in-Done.ensures.done c.write_wanted.ensures c.in_ok-came.ensures.received)
-    c.write_all.ensures.sent
-
-pub returns-in_default-2 : goal.returns-in_default-2
-returns-in_default-2 g c = record {
-  done = search rules;
-  ended = put_not_written _ _ _ c.args.first c.args.path.now c.args.bytes.now _ c.in_ok-end.end
-      (wanted_received
-      (λ x. Since (g.T.Talk.talked c.args.talk.now) (g.T.Talk.talked c.ask_one.new.talk)
-      (spelling_of (decimal c.args.first) file_handle (OpenWrite c.args.path.now) ∷ []) (x ∷ []))
-      (taken c.in_ok-came.came c.ask_one.new.reply.items) _ _ c.in-Done.ensures.done c.write_wanted.ensures c.in_ok-came.ensures.received)
-      c.in_ok-end.ensures.ended;
-  waited = c.in_ok-end.ensures.waited;
-  unfailed = omega (arith, c.in_ok-end.ensures.unfailed, c.in_ok-came.ensures.unfailed);
-  patient = c.write_all.ensures.patient ∙ c.ask_one.ensures.patient;
-  faults = tt;
-  begun = put_writing _ _ _ c.args.first c.args.path.now c.args.bytes.now _
-      (wanted_received
-      (λ x. Since (g.T.Talk.talked c.args.talk.now) (g.T.Talk.talked c.ask_one.new.talk)
-      (spelling_of (decimal c.args.first) file_handle (OpenWrite c.args.path.now) ∷ []) (x ∷ []))
-      (taken c.in_ok-came.came c.ask_one.new.reply.items) _ _ c.in-Done.ensures.done c.write_wanted.ensures c.in_ok-came.ensures.received)
-      c.write_all.ensures.sent;
-}
-
-pub returns-in_err-came-2-clause-begun : goal.returns-in_err-came-2-clause-begun
-returns-in_err-came-2-clause-begun g c =
-    put_closing _ _ _ _ c.args.first c.args.path.now c.args.bytes.now
-    (wanted_received
-    (λ x. Since (g.T.Talk.talked c.args.talk.now) (g.T.Talk.talked c.ask_one.new.talk)
-    (spelling_of (decimal c.args.first) file_handle (OpenWrite c.args.path.now) ∷ []) (x ∷ []))
-    (taken c.in_ok-came.came c.ask_one.new.reply.items) _ _ c.in-Done.ensures.done c.write_wanted.ensures c.in_ok-came.ensures.received)
-    (when_copied _ _ c.in-Done-2.is c.in_ok-end.ensures.done)
+    put_closing _ _ _ c.args.first c.args.path.now c.args.bytes.now
+    (put_written _ _ c.args.first c.args.path.now c.args.bytes.now (when_copied _ _ c.in-Done.is c.in_ok-end.ensures.done))
     (subst
     (λ n. SentOrNot (g.T.Talk.talked c.write_all.new.talk) (g.T.Talk.talked c.ask_telling.new.talk)
     (spelling_of (decimal (c.args.first + 1 + n)) file_handle Close))
@@ -82,12 +54,8 @@ returns-in_err-came-2-clause-begun g c =
 
 pub returns-then-not-came-clause-begun : goal.returns-then-not-came-clause-begun
 returns-then-not-came-clause-begun g c =
-    put_closing _ _ _ _ c.args.first c.args.path.now c.args.bytes.now
-    (wanted_received
-    (λ x. Since (g.T.Talk.talked c.args.talk.now) (g.T.Talk.talked c.ask_one.new.talk)
-    (spelling_of (decimal c.args.first) file_handle (OpenWrite c.args.path.now) ∷ []) (x ∷ []))
-    (taken c.in_ok-came.came c.ask_one.new.reply.items) _ _ c.in-Done.ensures.done c.write_wanted.ensures c.in_ok-came.ensures.received)
-    (when_copied _ _ c.in-Done-2.is c.in_ok-end.ensures.done)
+    put_closing _ _ _ c.args.first c.args.path.now c.args.bytes.now
+    (put_written _ _ c.args.first c.args.path.now c.args.bytes.now (when_copied _ _ c.in-Done.is c.in_ok-end.ensures.done))
     (subst
     (λ n. SentOrNot (g.T.Talk.talked c.write_all.new.talk) (g.T.Talk.talked c.ask_telling.new.talk)
     (spelling_of (decimal (c.args.first + 1 + n)) file_handle Close))
@@ -95,65 +63,39 @@ returns-then-not-came-clause-begun g c =
 
 pub returns-clause-begun : goal.returns-clause-begun
 returns-clause-begun g c =
-    put_closing _ _ _ _ c.args.first c.args.path.now c.args.bytes.now
-    (wanted_received
-    (λ x. Since (g.T.Talk.talked c.args.talk.now) (g.T.Talk.talked c.ask_one.new.talk)
-    (spelling_of (decimal c.args.first) file_handle (OpenWrite c.args.path.now) ∷ []) (x ∷ []))
-    (taken c.in_ok-came.came c.ask_one.new.reply.items) _ _ c.in-Done.ensures.done c.write_wanted.ensures c.in_ok-came.ensures.received)
-    (when_copied _ _ c.in-Done-2.is c.in_ok-end.ensures.done)
+    put_closing _ _ _ c.args.first c.args.path.now c.args.bytes.now
+    (put_written _ _ c.args.first c.args.path.now c.args.bytes.now (when_copied _ _ c.in-Done.is c.in_ok-end.ensures.done))
     (subst
     (λ n. SentOrNot (g.T.Talk.talked c.write_all.new.talk) (g.T.Talk.talked c.ask_telling.new.talk)
     (spelling_of (decimal (c.args.first + 1 + n)) file_handle Close))
     c.chunk_count.ensures.value c.ask_telling.ensures.sent)
 
-pub returns-in_default-clause-ended : goal.returns-in_default-clause-ended
-returns-in_default-clause-ended g c =
-    put_not_opened _ _ c.args.first c.args.path.now c.args.bytes.now _ _ c.settled.result c.write_wanted.ensures
-    c.in_ok-came.ensures.all c.settled.ensures.ended
-
 pub returns-then-not-came-clause-ended : goal.returns-then-not-came-clause-ended
 returns-then-not-came-clause-ended g c =
-    let none : c.in_ok-came-2.came ≡ false = search rules in
+    let none : c.in_ok-came.came ≡ false = search rules in
     unless c.unanswered.result _
     (rw c.unanswered.ensures
-    (put_ended_unanswered _ _ _ _ c.args.first c.chunk_count.result c.args.path.now c.args.bytes.now
-    c.ask_telling.new.is_sent
-    c.chunk_count.ensures.value
-    (wanted_received
-    (λ x. Since (g.T.Talk.talked c.args.talk.now) (g.T.Talk.talked c.ask_one.new.talk)
-    (spelling_of (decimal c.args.first) file_handle (OpenWrite c.args.path.now) ∷ []) (x ∷ []))
-    (taken c.in_ok-came.came c.ask_one.new.reply.items) _ _ c.in-Done.ensures.done c.write_wanted.ensures c.in_ok-came.ensures.received)
-    (when_copied _ _ c.in-Done-2.is c.in_ok-end.ensures.done)
-    (where_none c.in_ok-came-2.came c.ask_telling.new.reply.items _ none c.in_ok-came-2.ensures.known)))
+    (put_ended_unanswered _ _ _ c.args.first c.chunk_count.result c.args.path.now c.args.bytes.now
+    c.ask_telling.new.is_sent c.chunk_count.ensures.value
+    (put_written _ _ c.args.first c.args.path.now c.args.bytes.now (when_copied _ _ c.in-Done.is c.in_ok-end.ensures.done))
+    (where_none c.in_ok-came.came c.ask_telling.new.reply.items _ none c.in_ok-came.ensures.known)))
 
 pub returns-then-not-came-clause-waited : goal.returns-then-not-came-clause-waited
 returns-then-not-came-clause-waited g c =
-    let none : c.in_ok-came-2.came ≡ false = search rules in
-    unanswered_waited c.in_ok-came-2.came c.ask_telling.new.reply.items c.unanswered.result c.ask_telling.new.is_sent _ _ c.unanswered.ensures none
-    c.in_ok-came-2.ensures.waited (λ w. (c.write_all.new.talk, w))
-
-pub returns-in_default-clause-waited : goal.returns-in_default-clause-waited
-returns-in_default-clause-waited g c =
-    unanswered_by (taken c.in_ok-came.came c.ask_one.new.reply.items) _ _ _ c.settled.result _ _ c.settled.ensures.ended
-    c.in_ok-came.ensures.waited (λ w. (c.args.talk.now, w))
+    let none : c.in_ok-came.came ≡ false = search rules in
+    unanswered_waited c.in_ok-came.came c.ask_telling.new.reply.items c.unanswered.result c.ask_telling.new.is_sent _ _ c.unanswered.ensures none
+    c.in_ok-came.ensures.waited (λ w. (c.write_all.new.talk, w))
 
 pub returns-clause-waited : goal.returns-clause-waited
 returns-clause-waited g c =
-    unanswered_by (taken c.in_ok-came-2.came c.ask_telling.new.reply.items) _ _ _ c.settled-2.result _ _ c.settled-2.ensures.ended
-    c.in_ok-came-2.ensures.waited (λ w. (c.write_all.new.talk, w))
+    unanswered_by (taken c.in_ok-came.came c.ask_telling.new.reply.items) _ _ _ c.settled.result _ _ c.settled.ensures.ended
+    c.in_ok-came.ensures.waited (λ w. (c.write_all.new.talk, w))
 
 pub returns-clause-ended : goal.returns-clause-ended
 returns-clause-ended g c =
-    let yes : c.in_ok-came-2.came ≡ true = search rules in
-    put_not_closed _ _ _ _ c.args.first c.chunk_count.result c.args.path.now c.args.bytes.now _ _ _ _ c.settled-2.result
-    (is_received c.in_ok-came-2.came _ yes)
-    c.chunk_count.ensures.value c.write_wanted-2.ensures
-    (wanted_received
-    (λ x. Since (g.T.Talk.talked c.args.talk.now) (g.T.Talk.talked c.ask_one.new.talk)
-    (spelling_of (decimal c.args.first) file_handle (OpenWrite c.args.path.now) ∷ []) (x ∷ []))
-    (taken c.in_ok-came.came c.ask_one.new.reply.items) _ _ c.in-Done.ensures.done c.write_wanted.ensures c.in_ok-came.ensures.received)
-    (when_copied _ _ c.in-Done-2.is c.in_ok-end.ensures.done) c.in_ok-came-2.ensures.all c.settled-2.ensures.ended
-
-pub returns-in_default-clause-begun : goal.returns-in_default-clause-begun
-returns-in_default-clause-begun g c =
-    put_opening _ _ c.args.first c.args.path.now c.args.bytes.now c.ask_one.ensures.sent
+    let yes : c.in_ok-came.came ≡ true = search rules in
+    put_not_closed _ _ _ c.args.first c.chunk_count.result c.args.path.now c.args.bytes.now _ _ c.settled.result
+    (is_received c.in_ok-came.came _ yes)
+    c.chunk_count.ensures.value c.write_wanted.ensures
+    (put_written _ _ c.args.first c.args.path.now c.args.bytes.now (when_copied _ _ c.in-Done.is c.in_ok-end.ensures.done))
+    c.in_ok-came.ensures.all c.settled.ensures.ended

@@ -1,13 +1,10 @@
 use Rattle.std.proofs.Common.{arith, rules, ap, ◌∙◌, ◌+◌, ◌<◌, ◌≡◌, true, false}
-use Rattle.std.specs.Fmt.{decimal}
-use Rattle.chaos_file.specs.Answer.{Wrote}
-use Rattle.file_copy.specs.Copy.{reply_of}
-use Rattle.file_copy.specs.Row.{file_handle}
 use Rattle.file_copy.specs.Talk.{taken}
-use Rattle.file_copy.specs.Ends.{write_sent, write_received}
+use Rattle.file_copy.specs.Ends.{put_sent, put_received}
 use Rattle.file_copy.proofs.Talks.{received_at, wanted_asked}
 use Rattle.file_copy.proofs.Begun.{sent_up_to}
-use Rattle.file_copy.proofs.Ended.{unless, refused_wanted, writes_not_done}
+use Rattle.file_copy.proofs.Ended.{unless, refused_wanted}
+use Rattle.file_copy.proofs.Puts.{put_wanted, writes_not_done}
 use Rattle.file_copy.proofs.Quiet.{unanswered_by}
 use Rattle.file_copy.proofs.put.write_all.Goals as goal
 
@@ -27,22 +24,21 @@ loop-i-preserved g c =
       unfailed = omega (arith, c.in_ok-came.ensures.unfailed, c.loop-i.invariant.unfailed);
       patient = c.next_reply.ensures.patient ∙ c.loop-i.invariant.patient;
       place = h.1 ∙ ap (λ n. n + 1) c.loop-i.invariant.place;
-      talk = received_at _ _ _ (write_received c.args.first c.args.bytes.now) c.loop-i.i _ _ is
-          (c.write_wanted.ensures
-          ∙ ap (λ n. reply_of (decimal (c.args.first + c.loop-i.i)) file_handle (Wrote n)) c.min-written.ensures)
+      talk = received_at _ _ _ (put_received c.args.first c.args.bytes.now) c.loop-i.i _ _ is
+          (put_wanted c.args.first c.loop-i.i c.args.bytes.now _ _ c.write_wanted.ensures c.put_said.ensures.said)
           (c.in_ok-came.ensures.talk _ _ c.loop-i.invariant.talk);
     }
 
 pub returns-in_err-came-clause-sent : goal.returns-in_err-came-clause-sent
 returns-in_err-came-clause-sent g c =
-    sent_up_to _ _ (write_sent c.args.first c.args.bytes.now) c.next_reply.new.flight.sent c.chunk_count-count.result _
-    _ c.next_reply.ensures.within c.chunk_count-count.ensures.value
+    sent_up_to _ _ (put_sent c.args.first c.args.path.now c.args.bytes.now) c.next_reply.new.flight.sent
+    (1 + c.chunk_count-count.result) _ _ c.next_reply.ensures.within (ap (λ n. 1 + n) c.chunk_count-count.ensures.value)
     (c.in_err-came.ensures.fault _ _ c.loop-i.invariant.talk)
 
 pub returns-then-not-is_wanted-clause-sent : goal.returns-then-not-is_wanted-clause-sent
 returns-then-not-is_wanted-clause-sent g c =
-    sent_up_to _ _ (write_sent c.args.first c.args.bytes.now) c.next_reply.new.flight.sent c.chunk_count-count.result
-    _ _ c.next_reply.ensures.within c.chunk_count-count.ensures.value
+    sent_up_to _ _ (put_sent c.args.first c.args.path.now c.args.bytes.now) c.next_reply.new.flight.sent
+    (1 + c.chunk_count-count.result) _ _ c.next_reply.ensures.within (ap (λ n. 1 + n) c.chunk_count-count.ensures.value)
     (c.in_ok-came.ensures.talk _ _ c.loop-i.invariant.talk)
 
 pub returns-then-not-is_wanted-clause-ended : goal.returns-then-not-is_wanted-clause-ended
@@ -51,8 +47,7 @@ returns-then-not-is_wanted-clause-ended g c =
     let last = taken c.in_ok-came.came c.next_reply.new.reply.items in
     writes_not_done _ _ _ c.args.first c.loop-i.i c.args.bytes.now c.write_wanted.new.wanted.items last c.refusal.result
     (omega (arith, c.loop-i-test.true, c.chunk_count-count.ensures.value))
-    (c.write_wanted.ensures
-    ∙ ap (λ n. reply_of (decimal (c.args.first + c.loop-i.i)) file_handle (Wrote n)) c.min-written.ensures)
+    (put_wanted c.args.first c.loop-i.i c.args.bytes.now _ _ c.write_wanted.ensures c.put_said.ensures.said)
     (c.in_ok-came.ensures.talk _ _ c.loop-i.invariant.talk)
     (unless c.refusal.result _
     (refused_wanted _ _ c.write_wanted.new.wanted.items last c.refusal.result c.is_wanted.result c.is_wanted.ensures no
@@ -65,5 +60,6 @@ returns-then-not-is_wanted-clause-waited g c =
 
 pub returns-clause-sent : goal.returns-clause-sent
 returns-clause-sent g c =
-    sent_up_to _ _ (write_sent c.args.first c.args.bytes.now) c.loop-i.flight.sent c.chunk_count-count.result _ _
-    c.loop-i.invariant.sent c.chunk_count-count.ensures.value c.loop-i.invariant.talk
+    sent_up_to _ _ (put_sent c.args.first c.args.path.now c.args.bytes.now) c.loop-i.flight.sent
+    (1 + c.chunk_count-count.result) _ _
+    c.loop-i.invariant.sent (ap (λ n. 1 + n) c.chunk_count-count.ensures.value) c.loop-i.invariant.talk

@@ -2,7 +2,7 @@ use Rattle.std.proofs.Common.{◌≤◌, ◌≡◌}
 use Rattle.file_copy.specs.Copy.{upto}
 use Rattle.file_copy.specs.Talk.{Since}
 use Rattle.file_copy.specs.Row.{row_command}
-use Rattle.file_copy.specs.Ends.{write_received}
+use Rattle.file_copy.specs.Ends.{put_received}
 use Rattle.file_copy.proofs.put.write_all.Given as goal
 
 abbrev pub invariant-loop-i : goal.invariant-loop-i
@@ -13,5 +13,5 @@ invariant-loop-i g l = record {
   unfailed : (g.T.Talk.course l.talk).failures ≤ (g.T.Talk.course l.fn.talk).failures;
   patient : (g.T.Talk.course l.talk).patience ≡ (g.T.Talk.course l.fn.talk).patience;
   talk : Since (g.T.Talk.talked l.fn.talk) (g.T.Talk.talked l.talk) (upto (row_command l.row) l.flight.sent)
-      (upto (write_received l.first l.bytes) l.i);
+      (upto (put_received l.first l.bytes) l.i);
 }

@@ -10,8 +10,8 @@ returns-in-Ok-Some g c =
     let was = c.args.self.now in
     let now = c.put_bytes.new.self in
     let Put : List ℕ → Type 0 = λ path.
-    EntersAnd g.T.Talk.talked g.T.Talk.connects was.session.is_in was.session.login.now was.session.talk
-    (put_of path (bytes_in LispMachine was.is_text c.in-Ok-Some.bytes.items)) now.session.talk in (
+    EntersAnd g.T.Talk.talked g.T.Talk.connects was.session.is_in was.session.login.now was.session.user.talk
+    (put_of path (bytes_in LispMachine was.is_text c.in-Ok-Some.bytes.items)) now.session.user.talk in (
       of_tried c.put_bytes.result c.of.result _
           (λ contents. (Put c.as_slice.result.now × (contents ≡ contents_of was.is_digested c.in-Ok-Some.bytes.items))
           × (now.session.is_in ≡ true)) _ c.of.ensures
