@@ -228,7 +228,8 @@ class Anew:
             content = content_of(FILE_LIMIT)
             (host.folder / "A").write_bytes(content)
             with network.closed_after(port, 20):
-                process = begun(self.client, ["get", "--window", "1", *line, "A", "A2"], cwd=here)
+                # a busy machine may take longer to start the server than a client waits by itself
+                process = begun(self.client, ["get", "--window", "1", "--timeout", "250", *line, "A", "A2"], cwd=here)
                 network.wait_for_last(port)
                 host.end()
                 host.start()
